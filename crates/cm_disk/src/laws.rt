@@ -1,0 +1,31 @@
+//! What follows from the definitions of images, for those who build on a disk.
+ghost use Rattle.std.specs.Prelude.{◌≡◌, [], List, ℕ, false, true, Some, is_some};
+ghost use Rattle.cm_disk.specs.Disk.{File, byte_at, IsImage};
+ghost use Rattle.cm_disk.specs.Images.{Stand, IsLeft, at_rest, is_touched};
+ghost use Rattle.cm_disk.specs.declared.calls.Call.{Call};
+ghost use Rattle.cm_disk.specs.Stands.{files_after, left_after};
+
+/// After a successful sync each image has what a read gives.
+pub fn a_synced_place_is_what_reads_give()
+    ensures { (read file : File) → IsLeft (at_rest read) file → file ≡ read }
+{}
+
+/// An untouched place has its durable content in each image.
+pub fn an_untouched_place_is_durable()
+    ensures { (s : Stand) (file : File) → s.touched ≡ [] → s.removed ≡ false → IsLeft s file → file ≡ s.durable }
+{}
+
+/// A durable byte outside the touched ranges stands in each image where the file is there.
+pub fn an_untouched_byte_is_durable()
+    ensures { (s : Stand) (file : File) (i byte : ℕ) → is_some file ≡ true → is_touched s.touched i ≡ false → byte_at s.durable i ≡ Some byte → IsLeft s file → byte_at file i ≡ Some byte }
+{}
+
+/// What is durable is one of the images.
+pub fn what_is_durable_is_left()
+    ensures { (s : Stand) → IsLeft s s.durable }
+{}
+
+/// A disk as it reads is one of its images, whatever was done on it.
+pub fn a_disk_as_it_reads_is_left()
+    ensures { (calls : List Call) → IsImage (left_after calls) (files_after calls) }
+{}

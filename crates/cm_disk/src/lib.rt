@@ -1,0 +1,27 @@
+//! A disk, by what reads give and what a stop may leave.
+#![tactic(auto)]
+
+mod calls;
+mod crash;
+mod disk;
+mod host;
+mod host_disk;
+mod host_listing;
+mod host_names;
+mod laws;
+mod mem_disk;
+mod memory;
+mod memory_calls;
+mod places;
+mod slots;
+
+pub use disk::{Disk, DiskFault};
+pub use host_disk::HostDisk;
+pub use laws::{
+    a_disk_as_it_reads_is_left, a_synced_place_is_what_reads_give, an_untouched_byte_is_durable,
+    an_untouched_place_is_durable, what_is_durable_is_left,
+};
+pub use memory::MemDisk;
+
+#[cfg(test)]
+mod tests;

@@ -1,0 +1,25 @@
+//! A disk in memory.
+ghost use Rattle.std.specs.Prelude.{◌≡◌, List, ℕ};
+ghost use Rattle.std.proofs.Props.{props};
+ghost use Rattle.cm_disk.specs.Stands.{stand_after, IsSmall};
+ghost use Rattle.cm_disk.specs.Slots.{stand_in, same_prop};
+
+use crate::calls::{Call, Slot};
+use cm_base::Place;
+use std::alloc::Global;
+use std::collections::BTreeMap;
+
+/// A disk in memory, with a record of all calls that changed something.
+#[derive(Drop)]
+pub struct MemDisk {
+    pub(crate) alloc: Global,
+    pub(crate) slots: BTreeMap<Place, Slot>,
+    pub(crate) calls: Vec<Call>,
+    pub(crate) fail: Vec<u64>,
+    pub(crate) stop: Option<u64>,
+    pub(crate) number: u64,
+    pub(crate) faults: u64,
+    pub(crate) short: u64,
+    ghost same: { (place : List ℕ) → stand_in slots place ≡ stand_after calls.items place } by { same_prop slots calls.items },
+    ghost small: { (place : List ℕ) → IsSmall (stand_after calls.items place) },
+}
