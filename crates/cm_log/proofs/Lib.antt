@@ -1,0 +1,16 @@
+pub mod Adding
+pub mod Along
+pub mod Apart
+pub mod Bytes
+pub mod Done
+pub mod Heads
+pub mod Images
+pub mod Made
+pub mod Pieces
+pub mod Quiet
+pub mod Readings
+pub mod Rest
+pub mod Shelveds
+pub mod Spelling
+pub mod Steps
+pub mod Written

@@ -1,0 +1,161 @@
+use Rattle.std.proofs.Common.{◌≡◌, inl, inr, ◌+◌, ◌≤◌, [], ◌∷◌, length, take, sym, ◌∙◌, subst, arith, rules}
+use Rattle.std.proofs.lemmas.Option.{same_Some}
+use Rattle.cm_disk.specs.Disk.{Files, put, bytes_of, written}
+use Rattle.cm_disk.proofs.Puts.{told_before, put_there}
+use Rattle.cm_log.proofs.Along.{begun, next, quiet}
+use Rattle.cm_log.proofs.Images.{behind, over_gate, staged_put, opened_put, partly_staged, partly_opened, still_shut, long_enough}
+use Rattle.cm_log.proofs.commit.commit.Goals as goal
+
+pub returns-in_err-write_at-clause-works : goal.returns-in_err-write_at-clause-works
+returns-in_err-write_at-clause-works g c x told front long h =
+    let failed = c.in_err-write_at.ensures.work.err x told in (
+      put x c.args.place.now failed.0,
+      failed.1,
+      record {
+        ok = search rules;
+        either = partly_staged x c.args.place.now c.args.end front c.args.body.now long (take c.assemble-count.result c.assemble-count.new.buffer) failed.0 h failed.2;
+        others = λ q other. put_there x c.args.place.now failed.0 q other;
+      },
+    )
+
+pub returns-in_err-write_at-clause-any_moment : goal.returns-in_err-write_at-clause-any_moment
+returns-in_err-write_at-clause-any_moment g c x told front long h =
+    let d = g.D.Disk in
+    let only = (c.requires.shut x told).3 in
+    let a = begun d.may_leave d.moment d.left_since c.args.place.now front c.args.body.now c.args.disk.now (x c.args.place.now) h only (g.met.D.Disk.only_now c.args.disk.now) in
+    let b = next d.may_leave d.moment d.left_since c.args.place.now front c.args.body.now c.args.disk.now c.args.disk.now c.write_at.new.self a c.write_at.ensures.time
+    (behind c.args.place.now front c.args.body.now (d.may_leave c.args.disk.now) (x c.args.place.now) c.args.end _ (d.may_leave c.write_at.new.self) long h only c.write_at.ensures.touches) in
+    b.so_far
+
+pub returns-in_err-sync-clause-works : goal.returns-in_err-sync-clause-works
+returns-in_err-sync-clause-works g c x told front long h =
+    let files = put x c.args.place.now (written (c.args.end + 1) (take c.assemble-count.result c.assemble-count.new.buffer) (x c.args.place.now)) in
+    let stood = staged_put x c.args.place.now c.args.end front c.args.body.now long (take c.assemble-count.result c.assemble-count.new.buffer) c.assemble-count.ensures.bytes h in (
+      files,
+      c.sync.ensures.same ∙ c.in_ok-write_at.ensures.work.ok x told,
+      record {
+        ok = search rules;
+        either = inl (still_shut (files c.args.place.now) front c.args.body.now stood);
+        others = λ q other. put_there x c.args.place.now _ q other;
+      },
+    )
+
+pub returns-in_err-sync-clause-any_moment : goal.returns-in_err-sync-clause-any_moment
+returns-in_err-sync-clause-any_moment g c x told front long h =
+    let d = g.D.Disk in
+    let only = (c.requires.shut x told).3 in
+    let a = begun d.may_leave d.moment d.left_since c.args.place.now front c.args.body.now c.args.disk.now (x c.args.place.now) h only (g.met.D.Disk.only_now c.args.disk.now) in
+    let b = next d.may_leave d.moment d.left_since c.args.place.now front c.args.body.now c.args.disk.now c.args.disk.now c.write_at.new.self a c.write_at.ensures.time
+    (behind c.args.place.now front c.args.body.now (d.may_leave c.args.disk.now) (x c.args.place.now) c.args.end _ (d.may_leave c.write_at.new.self) long h only c.write_at.ensures.touches) in
+    let e = quiet d.may_leave d.moment d.left_since c.args.place.now front c.args.body.now c.args.disk.now c.write_at.new.self c.sync.new.self b c.sync.ensures.time c.sync.ensures.stop in
+    e.so_far
+
+pub write_at-requires-2-clause-within : goal.write_at-requires-2-clause-within
+write_at-requires-2-clause-within g c x told =
+    let d = g.D.Disk in
+    let now = sym c.sync.ensures.same ∙ told in
+    let before = told_before (d.reads c.args.disk.now) (d.reads c.write_at.new.self) c.write_at.ensures.work.silent x now in
+    let s = c.requires.shut before.0 before.1 in
+    let files = put before.0 c.args.place.now (written (c.args.end + 1) (take c.assemble-count.result c.assemble-count.new.buffer) (before.0 c.args.place.now)) in
+    let stood = staged_put before.0 c.args.place.now c.args.end s.0 c.args.body.now s.1 (take c.assemble-count.result c.assemble-count.new.buffer) c.assemble-count.ensures.bytes s.2 in
+    let is : files ≡ x = same_Some files x (sym (c.in_ok-write_at.ensures.work.ok before.0 before.1) ∙ now) in
+    subst (λ (f : Files). c.args.end ≤ length (bytes_of (f c.args.place.now))) is (omega (arith, s.1, long_enough (files c.args.place.now) s.0 (still_shut (files c.args.place.now) s.0 c.args.body.now stood)))
+
+pub returns-in_err-write_at-2-clause-works : goal.returns-in_err-write_at-2-clause-works
+returns-in_err-write_at-2-clause-works g c x told front long h =
+    let files = put x c.args.place.now (written (c.args.end + 1) (take c.assemble-count.result c.assemble-count.new.buffer) (x c.args.place.now)) in
+    let stood = staged_put x c.args.place.now c.args.end front c.args.body.now long (take c.assemble-count.result c.assemble-count.new.buffer) c.assemble-count.ensures.bytes h in
+    let failed = c.in_err-write_at-2.ensures.work.err files (c.sync.ensures.same ∙ c.in_ok-write_at.ensures.work.ok x told) in (
+      put files c.args.place.now failed.0,
+      failed.1,
+      record {
+        ok = search rules;
+        either = partly_opened files c.args.place.now c.args.end front c.args.body.now long failed.0 stood failed.2;
+        others = λ q other. put_there files c.args.place.now failed.0 q other ∙ put_there x c.args.place.now _ q other;
+      },
+    )
+
+pub returns-in_err-write_at-2-clause-any_moment : goal.returns-in_err-write_at-2-clause-any_moment
+returns-in_err-write_at-2-clause-any_moment g c x told front long h =
+    let d = g.D.Disk in
+    let only = (c.requires.shut x told).3 in
+    let a = begun d.may_leave d.moment d.left_since c.args.place.now front c.args.body.now c.args.disk.now (x c.args.place.now) h only (g.met.D.Disk.only_now c.args.disk.now) in
+    let b = next d.may_leave d.moment d.left_since c.args.place.now front c.args.body.now c.args.disk.now c.args.disk.now c.write_at.new.self a c.write_at.ensures.time
+    (behind c.args.place.now front c.args.body.now (d.may_leave c.args.disk.now) (x c.args.place.now) c.args.end _ (d.may_leave c.write_at.new.self) long h only c.write_at.ensures.touches) in
+    let e = quiet d.may_leave d.moment d.left_since c.args.place.now front c.args.body.now c.args.disk.now c.write_at.new.self c.sync.new.self b c.sync.ensures.time c.sync.ensures.stop in
+    let files = put x c.args.place.now (written (c.args.end + 1) (take c.assemble-count.result c.assemble-count.new.buffer) (x c.args.place.now)) in
+    let stood = staged_put x c.args.place.now c.args.end front c.args.body.now long (take c.assemble-count.result c.assemble-count.new.buffer) c.assemble-count.ensures.bytes h in
+    let sure = c.in_ok-sync.ensures.durable files (c.in_ok-write_at.ensures.work.ok x told) in
+    let i = next d.may_leave d.moment d.left_since c.args.place.now front c.args.body.now c.args.disk.now c.sync.new.self c.write_at-2.new.self e c.write_at-2.ensures.time
+    (over_gate c.args.place.now front c.args.body.now (d.may_leave c.args.disk.now) (files c.args.place.now) c.args.end (d.may_leave c.sync.new.self) (d.may_leave c.write_at-2.new.self) long stood sure
+    (λ q f other now. c.write_at.ensures.touches.others q f other (c.sync.ensures.stop q f now)) c.write_at-2.ensures.touches) in
+    i.so_far
+
+pub returns-in_err-sync-2-clause-works : goal.returns-in_err-sync-2-clause-works
+returns-in_err-sync-2-clause-works g c x told front long h =
+    let files = put x c.args.place.now (written (c.args.end + 1) (take c.assemble-count.result c.assemble-count.new.buffer) (x c.args.place.now)) in
+    let stood = staged_put x c.args.place.now c.args.end front c.args.body.now long (take c.assemble-count.result c.assemble-count.new.buffer) c.assemble-count.ensures.bytes h in
+    let after = put files c.args.place.now (written c.args.end (1 ∷ []) (files c.args.place.now)) in
+    let told_after = c.in_ok-write_at-2.ensures.work.ok files (c.sync.ensures.same ∙ c.in_ok-write_at.ensures.work.ok x told) in
+    let opened = opened_put files c.args.place.now c.args.end front c.args.body.now long stood in (
+      after,
+      c.sync-2.ensures.same ∙ told_after,
+      record {
+        ok = search rules;
+        either = inr opened;
+        others = λ q other. put_there files c.args.place.now _ q other ∙ put_there x c.args.place.now _ q other;
+      },
+    )
+
+pub returns-in_err-sync-2-clause-any_moment : goal.returns-in_err-sync-2-clause-any_moment
+returns-in_err-sync-2-clause-any_moment g c x told front long h =
+    let d = g.D.Disk in
+    let only = (c.requires.shut x told).3 in
+    let a = begun d.may_leave d.moment d.left_since c.args.place.now front c.args.body.now c.args.disk.now (x c.args.place.now) h only (g.met.D.Disk.only_now c.args.disk.now) in
+    let b = next d.may_leave d.moment d.left_since c.args.place.now front c.args.body.now c.args.disk.now c.args.disk.now c.write_at.new.self a c.write_at.ensures.time
+    (behind c.args.place.now front c.args.body.now (d.may_leave c.args.disk.now) (x c.args.place.now) c.args.end _ (d.may_leave c.write_at.new.self) long h only c.write_at.ensures.touches) in
+    let e = quiet d.may_leave d.moment d.left_since c.args.place.now front c.args.body.now c.args.disk.now c.write_at.new.self c.sync.new.self b c.sync.ensures.time c.sync.ensures.stop in
+    let files = put x c.args.place.now (written (c.args.end + 1) (take c.assemble-count.result c.assemble-count.new.buffer) (x c.args.place.now)) in
+    let stood = staged_put x c.args.place.now c.args.end front c.args.body.now long (take c.assemble-count.result c.assemble-count.new.buffer) c.assemble-count.ensures.bytes h in
+    let sure = c.in_ok-sync.ensures.durable files (c.in_ok-write_at.ensures.work.ok x told) in
+    let i = next d.may_leave d.moment d.left_since c.args.place.now front c.args.body.now c.args.disk.now c.sync.new.self c.write_at-2.new.self e c.write_at-2.ensures.time
+    (over_gate c.args.place.now front c.args.body.now (d.may_leave c.args.disk.now) (files c.args.place.now) c.args.end (d.may_leave c.sync.new.self) (d.may_leave c.write_at-2.new.self) long stood sure
+    (λ q f other now. c.write_at.ensures.touches.others q f other (c.sync.ensures.stop q f now)) c.write_at-2.ensures.touches) in
+    let j = quiet d.may_leave d.moment d.left_since c.args.place.now front c.args.body.now c.args.disk.now c.write_at-2.new.self c.sync-2.new.self i c.sync-2.ensures.time c.sync-2.ensures.stop in
+    j.so_far
+
+pub returns-clause-works : goal.returns-clause-works
+returns-clause-works g c x told front long h =
+    let files = put x c.args.place.now (written (c.args.end + 1) (take c.assemble-count.result c.assemble-count.new.buffer) (x c.args.place.now)) in
+    let stood = staged_put x c.args.place.now c.args.end front c.args.body.now long (take c.assemble-count.result c.assemble-count.new.buffer) c.assemble-count.ensures.bytes h in
+    let after = put files c.args.place.now (written c.args.end (1 ∷ []) (files c.args.place.now)) in
+    let told_after = c.in_ok-write_at-2.ensures.work.ok files (c.sync.ensures.same ∙ c.in_ok-write_at.ensures.work.ok x told) in
+    let opened = opened_put files c.args.place.now c.args.end front c.args.body.now long stood in (
+      after,
+      c.sync-2.ensures.same ∙ told_after,
+      record {
+        ok = opened;
+        either = inr opened;
+        others = λ q other. put_there files c.args.place.now _ q other ∙ put_there x c.args.place.now _ q other;
+      },
+    )
+
+pub returns-clause-durable : goal.returns-clause-durable
+returns-clause-durable g c x told = c.in_ok-sync-2.ensures.durable x (sym c.sync-2.ensures.same ∙ told)
+
+pub returns-clause-any_moment : goal.returns-clause-any_moment
+returns-clause-any_moment g c x told front long h =
+    let d = g.D.Disk in
+    let only = (c.requires.shut x told).3 in
+    let a = begun d.may_leave d.moment d.left_since c.args.place.now front c.args.body.now c.args.disk.now (x c.args.place.now) h only (g.met.D.Disk.only_now c.args.disk.now) in
+    let b = next d.may_leave d.moment d.left_since c.args.place.now front c.args.body.now c.args.disk.now c.args.disk.now c.write_at.new.self a c.write_at.ensures.time
+    (behind c.args.place.now front c.args.body.now (d.may_leave c.args.disk.now) (x c.args.place.now) c.args.end _ (d.may_leave c.write_at.new.self) long h only c.write_at.ensures.touches) in
+    let e = quiet d.may_leave d.moment d.left_since c.args.place.now front c.args.body.now c.args.disk.now c.write_at.new.self c.sync.new.self b c.sync.ensures.time c.sync.ensures.stop in
+    let files = put x c.args.place.now (written (c.args.end + 1) (take c.assemble-count.result c.assemble-count.new.buffer) (x c.args.place.now)) in
+    let stood = staged_put x c.args.place.now c.args.end front c.args.body.now long (take c.assemble-count.result c.assemble-count.new.buffer) c.assemble-count.ensures.bytes h in
+    let sure = c.in_ok-sync.ensures.durable files (c.in_ok-write_at.ensures.work.ok x told) in
+    let i = next d.may_leave d.moment d.left_since c.args.place.now front c.args.body.now c.args.disk.now c.sync.new.self c.write_at-2.new.self e c.write_at-2.ensures.time
+    (over_gate c.args.place.now front c.args.body.now (d.may_leave c.args.disk.now) (files c.args.place.now) c.args.end (d.may_leave c.sync.new.self) (d.may_leave c.write_at-2.new.self) long stood sure
+    (λ q f other now. c.write_at.ensures.touches.others q f other (c.sync.ensures.stop q f now)) c.write_at-2.ensures.touches) in
+    let j = quiet d.may_leave d.moment d.left_since c.args.place.now front c.args.body.now c.args.disk.now c.write_at-2.new.self c.sync-2.new.self i c.sync-2.ensures.time c.sync-2.ensures.stop in
+    j.so_far

@@ -1,0 +1,6 @@
+pub mod Fronts
+pub mod Heads
+pub mod Logs
+pub mod Records
+pub mod Settled
+pub mod Shelves

@@ -1,0 +1,110 @@
+-- A log and its reader on a disk.
+use Rattle.std.specs.Prelude.{◌≡◌, ◌≢◌, ◌⊎◌, ℕ, ◌+◌, ◌≤◌, ◌==◌, Bool, true, List, length}
+use Rattle.cm_disk.specs.Disk.{File, Files, bytes_of, IsImage, Only}
+use Rattle.cm_log.specs.declared.shelf.Shelf.{Shelf}
+use Rattle.cm_log.specs.declared.shelf.Side.{Side}
+use Rattle.cm_log.specs.declared.state.Log.{Log}
+use Rattle.cm_log.specs.declared.position.LogReader.{LogReader}
+use Rattle.cm_log.specs.Shelves.{ready_place, log_place, IsElsewhere}
+use Rattle.cm_log.specs.Logs.{Entry, Reading, Closed, Shelved, NoLog, Live, ended, following, closed, fresh, rest_at, shelved, added}
+
+-- a log's shelf, the place of its file, the place of its closed gate, and how many records it has
+abbrev pub shelf_of : Log → Shelf
+shelf_of log = log.shelf
+
+abbrev pub place_of : Log → List ℕ
+place_of log = log.place
+
+abbrev pub end_of : Log → ℕ
+end_of log = log.end
+
+abbrev pub number_of : Log → ℕ
+number_of log = log.number
+
+-- no append has failed, or settling told what became of it
+abbrev pub is_settled : Log → Bool
+is_settled log = log.end_with == log.end
+
+-- a reader's shelf, the place of its file, and the gate of the record that comes next
+abbrev pub reader_shelf : LogReader → Shelf
+reader_shelf reader = reader.shelf
+
+abbrev pub reader_place : LogReader → List ℕ
+reader_place reader = reader.place
+
+abbrev pub reader_at : LogReader → ℕ
+reader_at reader = reader.at
+
+-- the closed gate was met
+abbrev pub has_ended : LogReader → Bool
+has_ended reader = reader.ended
+
+-- what is to come in these files
+abbrev pub rest_of : Files → LogReader → Reading
+rest_of files reader = rest_at files reader.place reader.at
+
+-- at the three places a stop leaves what a read gives
+pub record Rests (shelf : Shelf) (files : Files) (may_leave : List ℕ → File → Type 0) : Type 0 where
+  pub ready : Only (files (ready_place shelf)) (may_leave (ready_place shelf))
+  pub logs : (side : Side) → Only (files (log_place shelf side)) (may_leave (log_place shelf side))
+
+-- the files of the log's shelf are a live log that ends where the log says
+pub record EndsIn (files : Files) (log : Log) : Type 0 where
+  pub entries : List Entry
+  pub live : shelved log.shelf files ≡ Live log.place (closed entries log.end)
+  pub number : log.number ≡ length entries
+
+-- so it is, and all of it is durable
+pub record IsSettled (files : Files) (may_leave : List ℕ → File → Type 0) (log : Log) : Type 0 where
+  pub ends : EndsIn files log
+  pub rests : Rests log.shelf files may_leave
+  pub idle : log.end_with ≡ log.end
+
+-- an append of this body to that log has failed: the record is there or not, in what reads give and in what a stop leaves
+pub record IsUnsettled (files : Files) (may_leave : List ℕ → File → Type 0) (log : Log) (old : Shelved) (body : List ℕ) : Type 0 where
+  pub entries : List Entry
+  pub live : old ≡ Live log.place (closed entries log.end)
+  pub number : log.number ≡ length entries
+  pub end_with : log.end_with ≡ log.end + 5 + length body
+  pub reads : (shelved log.shelf files ≡ old) ⊎ (shelved log.shelf files ≡ added body old)
+  pub leaves : (left : Files) → IsImage may_leave left → (shelved log.shelf left ≡ old) ⊎ (shelved log.shelf left ≡ added body old)
+  pub ready : Only (files (ready_place log.shelf)) (may_leave (ready_place log.shelf))
+  pub other : (side : Side) → log_place log.shelf side ≢ log.place → Only (files (log_place log.shelf side)) (may_leave (log_place log.shelf side))
+
+-- a log on its disk, settled or not
+abbrev pub Stands : Files → (List ℕ → File → Type 0) → Log → Type 0
+Stands files may_leave log = IsSettled files may_leave log ⊎ ((old : Shelved) × (body : List ℕ) × IsUnsettled files may_leave log old body)
+
+-- the live log in these files has the records that the reader passed, and then what is to come
+pub record IsAt (files : Files) (reader : LogReader) : Type 0 where
+  pub passed : List Entry
+  pub live : shelved reader.shelf files ≡ Live reader.place (following passed (rest_of files reader))
+  pub number : reader.number ≡ length passed
+  pub within : reader.at ≤ length (bytes_of (files reader.place))
+  pub ended : reader.ended ≡ true → rest_of files reader ≡ ended (Closed reader.at)
+
+-- so it is, and all of it is durable
+pub record IsReading (files : Files) (may_leave : List ℕ → File → Type 0) (reader : LogReader) : Type 0 where
+  pub at : IsAt files reader
+  pub rests : Rests reader.shelf files may_leave
+
+-- At each other place is what a stop might have left before; the shelf has the log from before, with the record or without.
+pub record IsBeforeOrAfter (shelf : Shelf) (place : List ℕ) (may_leave : List ℕ → File → Type 0) (old : Shelved) (body : List ℕ) (left : Files) : Type 0 where
+  pub others : (q : List ℕ) → q ≢ place → may_leave q (left q)
+  pub log : (shelved shelf left ≡ old) ⊎ (shelved shelf left ≡ added body old)
+
+-- At each other place is what a stop might have left before; the shelf has no log yet, or a whole new one, or a stop might have left all of it before.
+pub record IsMaking (shelf : Shelf) (may_leave : List ℕ → File → Type 0) (left : Files) : Type 0 where
+  pub others : (q : List ℕ) → IsElsewhere shelf q → may_leave q (left q)
+  pub log : IsImage may_leave left ⊎ ((shelved shelf left ≡ NoLog) ⊎ (shelved shelf left ≡ fresh shelf))
+
+-- where there was no log there is a new one, and nothing else has changed
+pub record Makes (shelf : Shelf) (files now : Files) : Type 0 where
+  pub none : shelved shelf files ≡ NoLog
+  pub made : shelved shelf now ≡ fresh shelf
+  pub others : (q : List ℕ) → IsElsewhere shelf q → now q ≡ files q
+
+-- a record more, and nothing else has changed
+pub record Adds (shelf : Shelf) (place : List ℕ) (files now : Files) (body : List ℕ) : Type 0 where
+  pub log : shelved shelf now ≡ added body (shelved shelf files)
+  pub others : (q : List ℕ) → q ≢ place → now q ≡ files q

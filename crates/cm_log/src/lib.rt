@@ -1,0 +1,24 @@
+//! The log of a shelf: records behind gate bytes, of which an append opens one only when all behind it is durable.
+#![tactic(auto)]
+
+mod commit;
+mod faults;
+mod head;
+mod log;
+mod making;
+mod opening;
+mod position;
+mod prefix;
+mod reading;
+mod shelf;
+mod state;
+mod whole;
+
+pub use faults::{AppendFault, CreateFault, LogFault};
+pub use making::create;
+pub use position::LogReader;
+pub use shelf::Shelf;
+pub use state::Log;
+
+#[cfg(test)]
+mod tests;

@@ -1,0 +1,354 @@
+//! A log on a disk in memory: its bytes, its refusals, and what a stop at each device call leaves.
+ghost use Rattle.std.specs.Prelude.{◌≡◌, true, IfOk};
+ghost use Rattle.std.specs.Option.{ForSome};
+ghost use Rattle.cm_log.specs.Settled.{is_settled, IsSettled};
+
+use crate::shelf::{Side, log_at, ready_at};
+use crate::{AppendFault, CreateFault, Log, LogFault, LogReader, Shelf, create};
+use cm_base::Place;
+use cm_disk::{Disk, MemDisk};
+use std::alloc::Global;
+use std::process::Abort;
+use std::test::Fail;
+
+// The log behind all its records.
+fn last<D: Disk>(disk: &mut D, shelf: Shelf) -> Result<Log, LogFault>
+    ensures idle { IfOk result (λ log. is_settled log ≡ true) }
+    ensures settled { IfOk result (λ log. ForSome (D.reads disk.new) (λ files. IsSettled files (D.may_leave disk.new) log)) }
+{
+    let mut buf = [0u8; 65536];
+    let mut reader = LogReader::open(disk, shelf)?;
+    for _ in 0..100 {
+        match reader.next(disk, &mut buf) {
+            Ok(Some(_)) => {}
+            Ok(None) => return Ok(reader.done()),
+            Err(fault) => return Err(fault),
+        }
+    }
+    Err(LogFault::Disk)
+}
+
+// How many records there are, each of which is the next of these.
+fn records<D: Disk>(disk: &mut D, shelf: Shelf, bodies: &[&[u8]]) -> Result<usize, LogFault> {
+    let mut buf = [0u8; 65536];
+    let mut reader = LogReader::open(disk, shelf)?;
+    let mut count = 0;
+    for body in bodies {
+        match reader.next(disk, &mut buf)? {
+            Some(len) if len <= 65536 && &buf[..len] == *body => count += 1,
+            Some(_) => return Err(LogFault::Disk),
+            None => return Ok(count),
+        }
+    }
+    match reader.next(disk, &mut buf)? {
+        Some(_) => Err(LogFault::Disk),
+        None => Ok(count),
+    }
+}
+
+fn add<D: Disk>(disk: &mut D, shelf: Shelf, body: &[u8]) -> Option<Result<u64, AppendFault>> {
+    match last(disk, shelf) {
+        Ok(mut log) => Some(log.append(disk, body)),
+        Err(_) => None,
+    }
+}
+
+fn holds<D: Disk>(disk: &mut D, place: &Place, bytes: &[u8]) -> bool {
+    let mut buf = [0u8; 64];
+    let Ok(count) = disk.read_at(place, 0, &mut buf) else {
+        return false;
+    };
+    &buf[..count] == bytes
+}
+
+#[test]
+fn bytes_of_a_log(rt: HostRuntime) -> Result<(), Fail> {
+    for shelf in [Shelf::PkgLib, Shelf::Site] {
+        let mut disk = MemDisk::new(rt.alloc(), Vec::new(rt.alloc()))?;
+        assert!(rt; records(&mut disk, shelf, &[]) == Err(LogFault::NoLibrary));
+        assert_eq!(rt; create(&mut disk, shelf), Ok(()));
+        assert_eq!(rt; create(&mut disk, shelf), Err(CreateFault::AlreadyThere));
+        assert!(rt; holds(&mut disk, &ready_at(shelf), b""));
+        assert!(rt;
+            holds(
+                &mut disk,
+                &log_at(shelf, Side::First),
+                b"\x01\x01\x01\0\0\0\0\0\0\0\0"
+            )
+        );
+        assert!(rt;
+            holds(
+                &mut disk,
+                &log_at(shelf, Side::Second),
+                b"\0\x01\0\0\0\0\0\0\0\0\0"
+            )
+        );
+        assert_eq!(rt; add(&mut disk, shelf, b"abc"), Some(Ok(0)));
+        assert_eq!(rt; add(&mut disk, shelf, b""), Some(Ok(1)));
+        assert!(rt;
+            holds(
+                &mut disk,
+                &log_at(shelf, Side::First),
+                b"\x01\x01\x01\0\0\0\0\0\0\0\x01\x03\0\0\0abc\x01\0\0\0\0\0",
+            )
+        );
+        assert!(rt; records(&mut disk, shelf, &[b"abc", b""]) == Ok(2));
+    }
+    Ok(())
+}
+
+#[test]
+fn long_bodies(rt: HostRuntime) -> Result<(), Fail> {
+    let bytes = [7u8; 65537];
+    let mut disk = MemDisk::new(rt.alloc(), Vec::new(rt.alloc()))?;
+    assert_eq!(rt; create(&mut disk, Shelf::PkgLib), Ok(()));
+    assert_eq!(rt;
+        add(&mut disk, Shelf::PkgLib, &bytes),
+        Some(Err(AppendFault::TooLong { len: 65537 }))
+    );
+    assert_eq!(rt; add(&mut disk, Shelf::PkgLib, &bytes[..65536]), Some(Ok(0)));
+    assert_eq!(rt; add(&mut disk, Shelf::PkgLib, b""), Some(Ok(1)));
+    assert!(rt; records(&mut disk, Shelf::PkgLib, &[&bytes[..65536], b""]) == Ok(2));
+    Ok(())
+}
+
+fn lay<D: Disk>(disk: &mut D, place: &Place, bytes: Option<&[u8]>) -> bool {
+    match bytes {
+        Some(bytes) if bytes.len() < 1000 => disk.write_at(place, 0, bytes).is_ok(),
+        _ => true,
+    }
+}
+
+fn try_faults(rt: &impl Abort, alloc: Global) -> Result<(), Fail> {
+    let live = b"\x01\x01\x01\0\0\0\0\0\0\0\0".as_slice();
+    let idle = b"\0\x01\0\0\0\0\0\0\0\0\0".as_slice();
+    for (first, second, side, at) in [
+        (None, Some(idle), Side::First, 0),
+        (Some(b"".as_slice()), Some(idle), Side::First, 0),
+        (Some(live), None, Side::Second, 0),
+        (Some(live), Some(b""), Side::Second, 0),
+        (None, None, Side::First, 0),
+        (Some(idle), Some(idle), Side::First, 0),
+        (Some(b"\x02"), Some(b"\x02"), Side::First, 0),
+        (Some(live), Some(live), Side::First, 0),
+        (
+            Some(b"\x01\x02\x01\0\0\0\0\0\0\0\0"),
+            Some(idle),
+            Side::First,
+            1,
+        ),
+        (Some(b"\x01"), Some(idle), Side::First, 1),
+        (
+            Some(idle),
+            Some(b"\x01\x03\0\0\0\0\0\0\0\0\0"),
+            Side::Second,
+            1,
+        ),
+        (
+            Some(live),
+            Some(b"\x01\x02\x02\0\0\0\0\0\0\0\0"),
+            Side::Second,
+            1,
+        ),
+        (Some(b"\x01\x01\x01"), Some(idle), Side::First, 3),
+        (
+            Some(b"\x01\x01\x01\0\0\0\0\0\0\0"),
+            Some(idle),
+            Side::First,
+            10,
+        ),
+        (
+            Some(b"\x01\x01\x01\0\0\0\0\0\0\0\x01"),
+            Some(idle),
+            Side::First,
+            11,
+        ),
+        (
+            Some(b"\x01\x01\x01\0\0\0\0\0\0\0\x01\0\0\0"),
+            Some(idle),
+            Side::First,
+            14,
+        ),
+        (
+            Some(b"\x01\x01\x01\0\0\0\0\0\0\0\x01\x02\0\0\0a"),
+            Some(idle),
+            Side::First,
+            16,
+        ),
+        (
+            Some(b"\x01\x01\x01\0\0\0\0\0\0\0\x01\x01\0\0\0a"),
+            Some(idle),
+            Side::First,
+            16,
+        ),
+        (
+            Some(b"\x01\x01\x01\0\0\0\0\0\0\0\x01\x01\0\x01\0"),
+            Some(idle),
+            Side::First,
+            11,
+        ),
+        (
+            Some(b"\x01\x01\x01\0\0\0\0\0\0\0\x01\x01\0\0\0a\x01\0\0\0\x01"),
+            Some(idle),
+            Side::First,
+            17,
+        ),
+    ] {
+        let mut disk = MemDisk::new(alloc, Vec::new(alloc))?;
+        let shelf = Shelf::PkgLib;
+        assert!(rt; lay(&mut disk, &ready_at(shelf), Some(b"")));
+        assert!(rt; lay(&mut disk, &log_at(shelf, Side::First), first));
+        assert!(rt; lay(&mut disk, &log_at(shelf, Side::Second), second));
+        let fault = LogFault::Unreadable {
+            place: log_at(shelf, side),
+            at,
+        };
+        assert!(rt;
+            records(&mut disk, shelf, &[b"a", b"b"]) == Err(fault),
+            "at {at}"
+        );
+    }
+    Ok(())
+}
+
+#[test]
+fn unreadable_logs(rt: HostRuntime) -> Result<(), Fail> {
+    try_faults(&rt, rt.alloc())
+}
+
+#[test]
+fn bytes_that_mean_nothing(rt: HostRuntime) -> Result<(), Fail> {
+    let shelf = Shelf::Site;
+    for (first, second, count) in [
+        (
+            b"\x01\x01\x01\0\0\0\0\0\0\0\x01\x01\0\0\0a\x02\x01\0\0\0\0".as_slice(),
+            b"\x07".as_slice(),
+            1,
+        ),
+        (b"\x01\x01\x01\0\0\0\0\0\0\0\x02\x01\x01", b"\0\xff", 0),
+        (
+            b"\x01\x01\x01\0\0\0\0\0\0\0\0",
+            b"\x01\x01\0\x01\0\0\0\0\0\0\x01\x01\0\0\0a\xff",
+            1,
+        ),
+        (b"\x01\x01\x02\0\0\0\0\0\0\0\0", b"\x01\x09\x01", 0),
+    ] {
+        let mut disk = MemDisk::new(rt.alloc(), Vec::new(rt.alloc()))?;
+        assert!(rt; lay(&mut disk, &ready_at(shelf), Some(b"anything")));
+        assert!(rt; lay(&mut disk, &log_at(shelf, Side::First), Some(first)));
+        assert!(rt; lay(&mut disk, &log_at(shelf, Side::Second), Some(second)));
+        assert!(rt; records(&mut disk, shelf, &[b"a"]) == Ok(count));
+    }
+    Ok(())
+}
+
+// How far a log came: 1 where it was made, and one more for each record that was acknowledged.
+fn grow<D: Disk>(disk: &mut D, shelf: Shelf, bodies: &[&[u8]]) -> usize {
+    if create(disk, shelf).is_err() {
+        return 0;
+    }
+    let mut done: usize = 1;
+    for body in bodies {
+        match add(disk, shelf, body) {
+            Some(Ok(_)) => done = done.saturating_add(1),
+            _ => return done,
+        }
+    }
+    done
+}
+
+// Whether a stop now leaves as many records as were acknowledged, or one more; and no library only where none was made.
+fn leaves_all(disk: &MemDisk, shelf: Shelf, bodies: &[&[u8]], done: usize) -> Result<bool, Fail> {
+    for pick in [0u8, 1, 2] {
+        let mut image = disk.crash(pick)?;
+        let good = match records(&mut image, shelf, bodies) {
+            Ok(count) => count == done.saturating_sub(1) || count == done,
+            Err(LogFault::NoLibrary) => done == 0,
+            Err(_) => false,
+        };
+        if !good {
+            return Ok(false);
+        }
+    }
+    Ok(true)
+}
+
+#[test]
+fn a_stop_at_each_call(rt: HostRuntime) -> Result<(), Fail> {
+    let shelf = Shelf::PkgLib;
+    let bodies = [b"first".as_slice(), b"", b"the third"];
+    let mut calls = 0;
+    for at in 0..60 {
+        let mut disk = MemDisk::stopping(rt.alloc(), at)?;
+        let done = grow(&mut disk, shelf, &bodies);
+        if done < 4 {
+            calls = at + 1;
+        }
+        assert!(rt; leaves_all(&disk, shelf, &bodies, done)?, "stopped at {at}");
+    }
+    // 11 calls make the log; then each record takes 6 to open, 1 for the closed gate, 2 for each record before it, and 4.
+    assert_eq!(rt; calls, 11 + 3 * 11 + 2 + 4);
+    Ok(())
+}
+
+// Whether a record was acknowledged, and whether it is there.
+fn add_and_settle<D: Disk>(disk: &mut D, shelf: Shelf, body: &[u8]) -> Option<(bool, bool)> {
+    let Ok(mut log) = last(disk, shelf) else {
+        return None;
+    };
+    match log.append(disk, body) {
+        Ok(_) => Some((true, true)),
+        Err(AppendFault::Disk) => match log.settle(disk) {
+            Ok(there) => Some((false, there)),
+            Err(_) => None,
+        },
+        Err(_) => None,
+    }
+}
+
+#[test]
+fn a_failed_append_is_settled(rt: HostRuntime) -> Result<(), Fail> {
+    let shelf = Shelf::Site;
+    // The calls of an append come behind 11 of `create` and 7 that open the log.
+    for (at, there) in [(18, false), (19, false), (20, false), (21, true)] {
+        let mut fail = Vec::new(rt.alloc());
+        fail.push(at)?;
+        let mut disk = MemDisk::new(rt.alloc(), fail)?;
+        assert_eq!(rt; create(&mut disk, shelf), Ok(()));
+        assert_eq!(rt;
+            add_and_settle(&mut disk, shelf, b"body"),
+            Some((false, there)),
+            "at {at}"
+        );
+        let count = if there { 1 } else { 0 };
+        assert!(rt; records(&mut disk, shelf, &[b"body"]) == Ok(count));
+        assert!(rt; records(&mut disk.crash(0)?, shelf, &[b"body"]) == Ok(count));
+        assert!(rt; records(&mut disk.crash(2)?, shelf, &[b"body"]) == Ok(count));
+    }
+    Ok(())
+}
+
+#[test]
+fn a_second_create(rt: HostRuntime) -> Result<(), Fail> {
+    let shelf = Shelf::PkgLib;
+    // The first one fails as it makes `ready`, cuts it or syncs it; the second one stops at each of its calls.
+    for first in 8..11 {
+        for at in first + 1..first + 13 {
+            let mut fail = Vec::new(rt.alloc());
+            fail.push(first)?;
+            for later in at..40 {
+                fail.push(later)?;
+            }
+            let mut disk = MemDisk::new(rt.alloc(), fail)?;
+            assert_eq!(rt; create(&mut disk, shelf), Err(CreateFault::Disk));
+            let again = create(&mut disk, shelf);
+            let done = if again == Err(CreateFault::Disk) {
+                0
+            } else {
+                1
+            };
+            assert!(rt; leaves_all(&disk, shelf, &[], done)?, "{first} and {at}");
+        }
+    }
+    Ok(())
+}

@@ -1,0 +1,28 @@
+//! A small file that is written whole.
+ghost use Rattle.std.specs.Prelude.{◌≡◌, ◌≢◌, ◌<◌, length, List, ℕ, Some, None, OnOk};
+ghost use Rattle.std.specs.Option.{ForSome};
+ghost use Rattle.cm_base.specs.Causes.{HasCause};
+ghost use Rattle.cm_disk.specs.Disk.{File, Files, put, Only, LeavesOnly};
+
+use cm_base::Place;
+use cm_disk::{Disk, DiskFault};
+
+/// Makes a file of these bytes and no others, and syncs it.
+pub(crate) fn write_file<D: Disk>(
+    disk: &mut D,
+    place: &Place,
+    bytes: &[u8],
+) -> Result<(), DiskFault>
+    requires { length bytes.now < 100 }
+    ensures made { OnOk result (ForSome (D.reads disk.old) (λ files. D.reads disk.new ≡ Some (put files place.now (Some bytes.now)))) }
+    ensures durable { OnOk result (ForSome (D.reads disk.old) (λ files. Only (Some bytes.now) (D.may_leave disk.new place.now))) }
+    ensures silent { D.reads disk.old ≡ None → D.reads disk.new ≡ None }
+    ensures others { (q : List ℕ) (file : File) → q ≢ place.now → D.may_leave disk.new q file → D.may_leave disk.old q file }
+    ensures run { LeavesOnly D.moment D.left_since disk.old disk.new (λ (left : Files). (q : List ℕ) → q ≢ place.now → D.may_leave disk.old q (left q)) }
+    ensures cause { HasCause (D.faults disk.old) (D.faults disk.new) result }
+{
+    disk.write_at(place, 0, bytes)?;
+    disk.cut(place, bytes.len() as u64)?;
+    disk.sync(place)?;
+    Ok(())
+}
