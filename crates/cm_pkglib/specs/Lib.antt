@@ -1,0 +1,7 @@
+pub mod Changes
+pub mod Counts
+pub mod Kept
+pub mod Laws
+pub mod Places
+pub mod Rows
+pub mod Valid
