@@ -1,0 +1,12 @@
+pub mod Earlier
+pub mod Entries
+pub mod EntriesLoop
+pub mod Fields
+pub mod Folding
+pub mod Kept
+pub mod Parts
+pub mod Places
+pub mod Rising
+pub mod Shows
+pub mod Told
+pub mod Walked

@@ -1,0 +1,11 @@
+pub mod Folders
+pub mod GatheredFiles
+pub mod Manifests
+pub mod MemFolders
+pub mod MemPlaces
+pub mod Paths
+pub mod Reading
+pub mod Scans
+pub mod Taking
+pub mod Trees
+pub mod Walks
