@@ -1,0 +1,5 @@
+pub mod Places
+pub mod State
+pub mod Look
+pub mod Whole
+pub mod Becomes
