@@ -1,0 +1,6 @@
+pub mod Bays
+pub mod Causes
+pub mod Machine
+pub mod Runs
+pub mod Texts
+pub mod Words

@@ -1,0 +1,88 @@
+-- What is printed, and the status.
+use Rattle.std.specs.Prelude.{ℕ, List, [], ◌∷◌, ◌++◌, codes}
+use Rattle.std.specs.List.{flat_map}
+use Rattle.std.specs.Fmt.{decimal}
+use Rattle.cm_library.specs.declared.row.VersionRow.{VersionRow}
+use Rattle.cm_library.specs.declared.row.JobRow.{JobRow}
+use Rattle.cm_top.specs.declared.fault.WordsFault.{WordsFault}
+use Rattle.cm_top.specs.declared.fault.WordsFault.TheVariants.{NoCommand, UnknownCommand, BadValue, MissingWord, ExtraWord, Memory as NoMemory}
+use Rattle.cm_top.specs.declared.reply.Refusal.{Refusal}
+use Rattle.cm_top.specs.declared.reply.Refusal.TheVariants.{PackageThere, TooManyVersions, TooManyEntries, NoBay, BadPath, SamePath, TooManyFiles, FileTooLong}
+use Rattle.cm_top.specs.declared.reply.Reply.{Reply}
+use Rattle.cm_top.specs.declared.reply.Reply.TheVariants.{Made, Added, Versions, Refused, Source, Disk, Memory, NoLibrary, Unreadable}
+use Rattle.cm_top.specs.declared.reply.Ended.{Ended}
+use Rattle.cm_top.specs.declared.reply.Ended.TheVariants.{Usage, Replied}
+
+-- each further word after one blank, and the line's end
+abbrev pub spoken_on : List (List ℕ) → List ℕ
+spoken_on [] = 10 ∷ []
+spoken_on (word ∷ words) = 32 ∷ (word ++ spoken_on words)
+
+-- a line of words with one blank between them
+abbrev pub spoken : List (List ℕ) → List ℕ
+spoken [] = 10 ∷ []
+spoken (word ∷ words) = word ++ spoken_on words
+
+-- the words of the usage line
+abbrev pub usage_words : WordsFault → List (List ℕ)
+usage_words NoCommand = codes "usage" ∷ codes "1" ∷ codes "NoCommand" ∷ []
+usage_words UnknownCommand = codes "usage" ∷ codes "2" ∷ codes "UnknownCommand" ∷ []
+usage_words (BadValue value) = codes "usage" ∷ codes "3" ∷ codes "BadValue" ∷ decimal value ∷ []
+usage_words (MissingWord value) = codes "usage" ∷ codes "4" ∷ codes "MissingWord" ∷ decimal value ∷ []
+usage_words ExtraWord = codes "usage" ∷ codes "5" ∷ codes "ExtraWord" ∷ []
+usage_words NoMemory = codes "memory" ∷ []
+
+-- the number, the name and the kept values of a refusal
+abbrev pub refusal_words : Refusal → List (List ℕ)
+refusal_words (PackageThere last) = codes "2" ∷ codes "PackageThere" ∷ decimal last ∷ []
+refusal_words TooManyVersions = codes "7" ∷ codes "TooManyVersions" ∷ []
+refusal_words TooManyEntries = codes "8" ∷ codes "TooManyEntries" ∷ []
+refusal_words (NoBay name) = codes "10" ∷ codes "NoBay" ∷ name ∷ []
+refusal_words (BadPath entry) = codes "19" ∷ codes "BadPath" ∷ decimal entry ∷ []
+refusal_words (SamePath entry) = codes "20" ∷ codes "SamePath" ∷ decimal entry ∷ []
+refusal_words TooManyFiles = codes "21" ∷ codes "TooManyFiles" ∷ []
+refusal_words (FileTooLong entry) = codes "22" ∷ codes "FileTooLong" ∷ decimal entry ∷ []
+
+-- the line of a version: package, version, `done`, files and bytes
+abbrev pub version_line : VersionRow → List ℕ
+version_line row = spoken (row.package ∷ decimal row.version ∷ codes "done" ∷ decimal row.entries ∷ decimal row.bytes ∷ [])
+
+-- the line of an unfinished job: package, version, `job`, its number, files and bytes
+abbrev pub job_line : JobRow → List ℕ
+job_line row = spoken (row.package ∷ decimal row.version ∷ codes "job" ∷ decimal row.job ∷ decimal row.entries ∷ decimal row.bytes ∷ [])
+
+abbrev pub reply_text : Reply → List ℕ
+reply_text (Made count) = spoken (codes "made" ∷ decimal count ∷ [])
+reply_text (Added id version files bytes) = spoken (codes "added" ∷ id ∷ decimal version ∷ codes "files" ∷ decimal files ∷ codes "bytes" ∷ decimal bytes ∷ [])
+reply_text (Versions versions jobs) = flat_map version_line versions ++ flat_map job_line jobs
+reply_text (Refused refusal) = spoken (codes "refused" ∷ refusal_words refusal)
+reply_text Source = spoken (codes "source" ∷ [])
+reply_text (Disk bay) = spoken (codes "disk" ∷ bay ∷ [])
+reply_text Memory = spoken (codes "memory" ∷ [])
+reply_text (NoLibrary bay) = spoken (codes "library" ∷ bay ∷ codes "missing" ∷ [])
+reply_text (Unreadable bay place at) = spoken (codes "library" ∷ bay ∷ codes "unreadable" ∷ place ∷ decimal at ∷ [])
+
+abbrev pub usage_status : WordsFault → ℕ
+usage_status NoMemory = 6
+usage_status fault = 2
+
+abbrev pub reply_status : Reply → ℕ
+reply_status (Made count) = 0
+reply_status (Added id version files bytes) = 0
+reply_status (Versions versions jobs) = 0
+reply_status (Refused refusal) = 1
+reply_status Source = 3
+reply_status (Disk bay) = 5
+reply_status Memory = 6
+reply_status (NoLibrary bay) = 7
+reply_status (Unreadable bay place at) = 7
+
+-- the text that a run prints
+abbrev pub text : Ended → List ℕ
+text (Usage fault) = spoken (usage_words fault)
+text (Replied reply) = reply_text reply
+
+-- its status
+abbrev pub status : Ended → ℕ
+status (Usage fault) = usage_status fault
+status (Replied reply) = reply_status reply

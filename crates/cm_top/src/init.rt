@@ -1,0 +1,50 @@
+//! The command `init`.
+ghost use Rattle.std.specs.Prelude.{◌≡◌, ◌∷◌, [], List, ℕ};
+ghost use Rattle.cm_top.specs.Bays.{seen, seen_bay, site, SameBut, IsSiteAlone};
+ghost use Rattle.cm_top.specs.Machine.{no_bay, step_init};
+ghost use Rattle.cm_top.specs.Runs.{EndsOn, EndsBy, Sourced};
+
+use crate::{Bay, Refusal, Reply};
+use cm_base::ServerName;
+use cm_disk::Disk;
+use cm_library::{CreateFault, Library};
+
+fn first_without_bay(names: &[ServerName]) -> Option<ServerName>
+    ensures { result ≡ no_bay names.now }
+{
+    for name in names {
+        if name.as_bytes() != b"site".as_slice() {
+            return Some(*name);
+        }
+    }
+    None
+}
+
+// Makes the library of the site's bay.
+fn make<D: Disk + Drop>(bay: &mut Bay<D>) -> Reply
+    requires { bay.old.name ≡ site }
+    ensures name { bay.new.name ≡ bay.old.name }
+    ensures ends { (from to : Sourced) → EndsOn (λ files library. step_init [] library) from to
+        (seen_bay D.reads D.faults bay.old) (seen_bay D.reads D.faults bay.new) result }
+{
+    match Library::init(&mut bay.disk) {
+        Ok(()) => Reply::Made { count: 1 },
+        Err(CreateFault::AlreadyThere) => Reply::Made { count: 0 },
+        Err(CreateFault::Disk) => Reply::Disk { bay: bay.name },
+    }
+}
+
+/// Makes the library of the site's bay, unless a name is no bay. It reads no folder, so its clause is of any.
+pub(crate) fn init<D: Disk + Drop>(names: &[ServerName], bays: &mut Vec<Bay<D>>) -> Reply
+    requires { IsSiteAlone (seen D.reads D.faults bays.old.items) }
+    ensures ends { (from to : Sourced) → EndsBy (λ files library. step_init names.now library) from to
+        (seen D.reads D.faults bays.old.items) (seen D.reads D.faults bays.new.items) result }
+    ensures bays { SameBut site (seen D.reads D.faults bays.old.items) (seen D.reads D.faults bays.new.items) }
+{
+    if let Some(name) = first_without_bay(names) {
+        return Reply::Refused {
+            refusal: Refusal::NoBay { name },
+        };
+    }
+    make(&mut bays[0])
+}

@@ -1,0 +1,23 @@
+//! The commands of the program.
+#![tactic(auto)]
+
+mod bay;
+mod fault;
+mod init;
+mod line;
+mod reply;
+mod running;
+mod say;
+mod show;
+mod texts;
+mod words;
+
+pub use bay::Bay;
+pub use fault::WordsFault;
+pub use line::Line;
+pub use reply::{Ended, Refusal, Reply};
+pub use running::run;
+pub use words::read_words;
+
+#[cfg(test)]
+mod tests;

@@ -1,0 +1,9 @@
+//! What the words of the command line say.
+use cm_base::{List, ServerName};
+
+/// What the words of the command line say.
+#[derive(Drop)]
+pub enum Line {
+    /// Makes the libraries of these bays, or of all where none is named.
+    Init { names: List<ServerName> },
+}

@@ -1,0 +1,75 @@
+//! What a command answers.
+use crate::WordsFault;
+use cm_base::{List, PackageId, Place, ServerName, Version};
+use cm_library::{JobRow, VersionRow};
+
+/// Why a command is refused.
+#[derive(Clone, Copy)]
+pub enum Refusal {
+    /// 2: the site's library has opened a version of the package, this one last.
+    PackageThere { last: Version },
+    /// 7: the library has as many versions and unfinished jobs as it may.
+    TooManyVersions,
+    /// 8: the library's entries would pass their limit.
+    TooManyEntries,
+    /// 10: the named bay is not handed in.
+    NoBay { name: ServerName },
+    /// 19: this path of the folder, from 0, is off the grammar of paths.
+    BadPath { entry: u32 },
+    /// 20: this path of the folder, from 0, equals an earlier one but for the case of letters.
+    SamePath { entry: u32 },
+    /// 21: the folder has too many files.
+    TooManyFiles,
+    /// 22: this file of the folder, from 0, is too long.
+    FileTooLong { entry: u32 },
+}
+
+/// What a command answers.
+#[derive(Drop)]
+pub enum Reply {
+    /// In so many bays a library was made.
+    Made {
+        count: u32,
+    },
+    /// The version was added, with so many files of so many bytes together.
+    Added {
+        package: PackageId,
+        version: Version,
+        files: u32,
+        bytes: u64,
+    },
+    /// The versions and the unfinished jobs of a library.
+    Versions {
+        versions: List<VersionRow>,
+        jobs: List<JobRow>,
+    },
+    /// The command is refused.
+    Refused {
+        refusal: Refusal,
+    },
+    /// The folder failed.
+    Source,
+    /// The disk of that bay failed.
+    Disk {
+        bay: ServerName,
+    },
+    /// There was no memory.
+    Memory,
+    /// The bay holds no library.
+    NoLibrary {
+        bay: ServerName,
+    },
+    /// The bay holds bytes that are no library, at this place from this byte on.
+    Unreadable {
+        bay: ServerName,
+        place: Place,
+        at: u64,
+    },
+}
+
+/// How a run ends: the words are refused, or a command replied.
+#[derive(Drop)]
+pub enum Ended {
+    Usage { fault: WordsFault },
+    Replied { reply: Reply },
+}

@@ -1,0 +1,63 @@
+//! One command.
+ghost use Rattle.std.specs.Prelude.{◌≡◌, ◌<◌, ◌^◌, List, ℕ};
+ghost use Rattle.cm_top.specs.Bays.{seen, IsSiteAlone};
+ghost use Rattle.cm_top.specs.Causes.{HasCauses};
+ghost use Rattle.cm_top.specs.Runs.{RunMeets, sunk, sourced};
+ghost use Rattle.cm_top.specs.Words.{texts};
+
+use crate::init::init;
+use crate::show::show;
+use crate::words::read_names;
+use crate::{Bay, Ended};
+use cm_base::{Sink, Source};
+use cm_disk::Disk;
+use cm_tree::Folder;
+use std::alloc::Global;
+
+// Reads the words, does what they say, and prints the end.
+fn run_words<F: Folder, K: Sink, D: Disk + Drop>(
+    alloc: Global,
+    words: &[String],
+    _folder: &mut F,
+    out: &mut K,
+    bays: &mut Vec<Bay<D>>,
+) -> u8
+    requires { IsSiteAlone (seen D.reads D.faults bays.old.items) }
+    ensures { RunMeets (texts words.now) (sourced F.shows F.faults _folder.old) (sourced F.shows F.faults _folder.new)
+        (seen D.reads D.faults bays.old.items) (seen D.reads D.faults bays.new.items)
+        (sunk K.got K.faults out.old) (sunk K.got K.faults out.new) result }
+{
+    match read_names(alloc, words) {
+        Ok(names) => {
+            let reply = init(&names, bays);
+            show(alloc, out, &Ended::Replied { reply })
+        }
+        Err(fault) => show(alloc, out, &Ended::Usage { fault }),
+    }
+}
+
+/// Does the command that the words say, prints its text, and answers its status.
+///
+/// There is one bay, `site`. Words that say no command change no disk, and their usage line is printed. Else the text and
+/// the status are those of the machine's step on the library that the site's bay was at entry, and the bay is the library
+/// after it; or the run ends by a status of 3 to 6 with its cause.
+pub fn run<S: Source, F: Folder, K: Sink, D: Disk + Drop>(
+    alloc: Global,
+    words: &[String],
+    _input: &mut S,
+    folder: &mut F,
+    out: &mut K,
+    bays: &mut Vec<Bay<D>>,
+    _minute: u64,
+) -> u8
+    requires alone { IsSiteAlone (seen D.reads D.faults bays.old.items) }
+    requires minute { _minute < 2 ^ 40 }
+    ensures meets { RunMeets (texts words.now) (sourced F.shows F.faults folder.old) (sourced F.shows F.faults folder.new)
+        (seen D.reads D.faults bays.old.items) (seen D.reads D.faults bays.new.items)
+        (sunk K.got K.faults out.old) (sunk K.got K.faults out.new) result }
+    ensures causes { HasCauses (texts words.now) (sourced F.shows F.faults folder.old) (sourced F.shows F.faults folder.new)
+        (seen D.reads D.faults bays.old.items) (seen D.reads D.faults bays.new.items)
+        (sunk K.got K.faults out.old) (sunk K.got K.faults out.new) result }
+{
+    run_words(alloc, words, folder, out, bays)
+}

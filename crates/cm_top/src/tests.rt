@@ -1,0 +1,4 @@
+//! Texts, statuses and bytes by values from outside.
+mod base;
+mod fakes;
+mod init;
