@@ -1,0 +1,20 @@
+//! `cmsite <base> <folder> <words>`: the commands over the real files below `base`.
+#![tactic(auto)]
+
+mod clock;
+mod input;
+mod output;
+mod start;
+
+use crate::start::start;
+use std::process::ExitCode;
+
+fn main(rt: HostRuntime) -> ExitCode {
+    match start(&rt) {
+        Ok(status) => ExitCode::from(status),
+        Err(_) => {
+            let _printed = print!(rt; "memory\n");
+            ExitCode::from(6)
+        }
+    }
+}

@@ -1,0 +1,82 @@
+//! What the program hands to its commands.
+use crate::clock::minute;
+use crate::input::HostSource;
+use crate::output::HostSink;
+use cm_base::{Memory, ServerName};
+use cm_disk::HostDisk;
+use cm_top::{Bay, run};
+use cm_tree::MemFolder;
+use std::alloc::Global;
+use std::{env, io};
+
+// The arguments behind the program's name. Arguments that are no text are no words.
+fn arguments(rt: &HostRuntime) -> Result<Vec<String>, Memory> {
+    let mut words = Vec::new(rt.alloc());
+    match env::args(rt) {
+        Ok(all) => {
+            for word in all.skip(1) {
+                words.push(word)?;
+            }
+        }
+        Err(error) if error.kind() == io::ErrorKind::OutOfMemory => return Err(Memory),
+        Err(_) => {}
+    }
+    Ok(words)
+}
+
+// The base folder: the first of two arguments or more.
+fn base_of(arguments: &[String]) -> &str {
+    if arguments.len() < 2 {
+        return ".";
+    }
+    arguments[0].as_str()
+}
+
+// The words: the arguments behind the first two.
+fn words_of(arguments: &[String]) -> &[String] {
+    if arguments.len() < 2 {
+        return &arguments[arguments.len()..];
+    }
+    &arguments[2..]
+}
+
+// The folder of the site's disk.
+fn site_folder(alloc: Global, base: &str) -> Result<String, Memory> {
+    let mut path = String::from_str(alloc, base)?;
+    path.push_str("/site")?;
+    Ok(path)
+}
+
+/// Runs the command of the arguments, and answers its status. The first argument is the base folder, the second one the
+/// folder that is added from, which no command reads yet; with fewer than two there are no words.
+pub(crate) fn start(rt: &HostRuntime) -> Result<u8, Memory> {
+    let alloc = rt.alloc();
+    let arguments = arguments(rt)?;
+    let Some(name) = ServerName::read(b"site") else {
+        unreachable!()
+    };
+    let disk = HostDisk::new(
+        rt.clone()?,
+        site_folder(alloc, base_of(&arguments))?.as_str(),
+    )?;
+    let mut folder = MemFolder::new(alloc, Vec::new(alloc), Vec::new(alloc), Vec::new(alloc))?;
+    let mut bays = Vec::new(alloc);
+    bays.push(Bay { name, disk })?;
+    let mut input = HostSource {
+        reader: rt.reader(),
+        count: 0,
+    };
+    let mut out = HostSink {
+        writer: io::writer(rt),
+        count: 0,
+    };
+    Ok(run(
+        alloc,
+        words_of(&arguments),
+        &mut input,
+        &mut folder,
+        &mut out,
+        &mut bays,
+        minute(rt),
+    ))
+}
