@@ -11,6 +11,7 @@ pub mod Quiet
 pub mod Readings
 pub mod Rest
 pub mod Shelveds
+pub mod Spelled
 pub mod Spelling
 pub mod Steps
 pub mod Written

@@ -52,7 +52,7 @@ shut_at bytes at is =
     let n : 0 < length (drop at bytes) = h.0 in
     (omega (arith, length-drop at bytes), λ one. h.1 (get_or-drop at bytes 0 0 ∙ ap (λ (i : ℕ). get_or bytes i 0) (omega arith) ∙ one))
 
-not_closed : (n e : ℕ) (entries : List Entry) → ended (Broken n) ≡ closed entries e → ⊥
+pub not_closed : (n e : ℕ) (entries : List Entry) → ended (Broken n) ≡ closed entries e → ⊥
 not_closed n e entries is =
     let ends : Broken n ≡ Closed e = ap (λ (r : Reading). r.ending) is in
     absurd (cc)
