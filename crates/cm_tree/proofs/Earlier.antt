@@ -1,10 +1,11 @@
 -- What holds of what a folder shows holds of what it showed before a call that changed nothing.
 use Rattle.std.proofs.Common.{◌≡◌, ◌⊎◌, ℕ, ◌<◌, List, length, Option, Some, refl, sym, ap, ◌∙◌, subst, inl, inr}
+use Rattle.cm_tree.specs.declared.entry.Entry.{Entry}
 use Rattle.cm_tree.specs.declared.scan_fault.ScanFault.{ScanFault}
 use Rattle.cm_tree.specs.declared.scan_fault.ScanFault.TheVariants.{Folder, TooManyFiles, BadPath, SamePath, FileTooLong, Memory}
 use Rattle.cm_tree.specs.Trees.{File}
 use Rattle.cm_tree.specs.Folders.{Shown, Stays, Agrees, WasRead, MayBeRead}
-use Rattle.cm_tree.specs.Scans.{first_fault, Gathers, HasFault}
+use Rattle.cm_tree.specs.Scans.{first_fault, Gathers, Scans, HasFault}
 use Rattle.cm_tree.specs.Walks.{AreBytes}
 
 module _ (first mid : Shown) (s : Stays first mid) where
@@ -13,6 +14,9 @@ module _ (first mid : Shown) (s : Stays first mid) where
 
   pub gathers_earlier : (most_files most : ℕ) (tree : List File) → Gathers most_files most mid tree → Gathers most_files most first tree
   gathers_earlier most_files most tree h = record { tree_is = h.tree_is; agrees = agrees_earlier tree h.agrees; clean = h.clean }
+
+  pub scans_earlier : (most_files most : ℕ) (entries : List Entry) → Scans most_files most mid entries → Scans most_files most first entries
+  scans_earlier most_files most entries h = record { tree = h.tree; gathers = gathers_earlier most_files most h.tree h.gathers; entries_are = h.entries_are }
 
   found_earlier : (most_files most : ℕ) (o : Option ScanFault) → (files : List File) × Agrees mid files × (first_fault most_files most files ≡ o)
       → (files : List File) × Agrees first files × (first_fault most_files most files ≡ o)

@@ -313,3 +313,25 @@ read_again entries m =
     let rest : entries_at (length entries) total [] (flat_map entry_bytes entries) ≡ Ok (entries, []) =
     ap (entries_at (length entries) total []) (sym (append-nil (flat_map entry_bytes entries))) ∙ entries_again total [] entries [] all in
     rw (header_again total (length entries) (flat_map entry_bytes entries) m.few, rest) (end_again total entries)
+
+-- ---- one spelling, whatever follows
+
+abbrev front_of : ℕ → List ℕ → Result (List Entry × List ℕ) TreeFault
+front_of total bytes = header_at total bytes >>= λ count. entries_at count.0 total [] count.1
+
+front_again : (total : ℕ) (entries : List Entry) (rest : List ℕ) → IsManifest entries → front_of total (spelling entries ++ rest) ≡ Ok (entries, rest)
+front_again total entries rest m =
+    let good : AreGood entries = record { each = m.each; rising = m.rising; apart = m.apart } in
+    let regrouped : spelling entries ++ rest ≡ head (length entries) ++ (flat_map entry_bytes entries ++ rest) = append_assoc (head (length entries)) (flat_map entry_bytes entries) rest in
+    ap (front_of total) regrouped
+    ∙ (ap (λ (r : Result (ℕ × List ℕ) TreeFault). r >>= λ count. entries_at count.0 total [] count.1) (header_again total (length entries) (flat_map entry_bytes entries ++ rest) m.few)
+    ∙ entries_again total [] entries rest (all_of_good [] entries good))
+
+pub one_front : (a b : List Entry) (x y : List ℕ) → IsManifest a → IsManifest b → spelling a ++ x ≡ spelling b ++ y → (a ≡ b) × (x ≡ y)
+one_front a b x y ma mb e =
+    let both : done_with a x ≡ done_with b y = sym (front_again 0 a x ma) ∙ (ap (front_of 0) e ∙ front_again 0 b y mb) in
+    let pair = ok_is (a, x) (b, y) both in
+    (ap (λ (p : List Entry × List ℕ). p.0) pair, ap (λ (p : List Entry × List ℕ). p.1) pair)
+
+pub read_spells : (bytes : List ℕ) (entries : List Entry) → Spells bytes entries → read_manifest bytes ≡ Ok entries
+read_spells bytes entries s = ap read_manifest s.spelled ∙ read_again entries s.manifest

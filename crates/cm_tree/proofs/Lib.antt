@@ -4,9 +4,11 @@ pub mod EntriesLoop
 pub mod Fields
 pub mod Folding
 pub mod Kept
+pub mod Listing
 pub mod Parts
 pub mod Places
 pub mod Rising
+pub mod Scanned
 pub mod Shows
 pub mod Told
 pub mod Walked

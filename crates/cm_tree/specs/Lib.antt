@@ -1,6 +1,8 @@
 pub mod Folders
 pub mod GatheredFiles
+pub mod HostFolders
 pub mod Manifests
+pub mod MemCalls
 pub mod MemFolders
 pub mod MemPlaces
 pub mod Paths

@@ -55,6 +55,12 @@ pub record Gathers (most_files most_bytes : ℕ) (shown : Shown) (tree : List Fi
   pub agrees : Agrees shown tree
   pub clean : first_fault most_files most_bytes tree ≡ None
 
+-- the manifest of such a tree
+pub record Scans (most_files most_bytes : ℕ) (shown : Shown) (entries : List Entry) : Type 0 where
+  pub tree : List File
+  pub gathers : Gathers most_files most_bytes shown tree
+  pub entries_are : entries ≡ manifest_of tree
+
 -- a fault of the files: it is the first fault of some files that agree with all that is shown; a fault of the folder and want
 -- of memory have other causes
 abbrev pub HasFault : ℕ → ℕ → Shown → ScanFault → Type 0

@@ -1,6 +1,7 @@
 -- Steps of a walk over a folder.
 use Rattle.std.specs.Prelude.{◌≡◌, ◌≢◌, ◌⊎◌, ℕ, ◌≤◌, ◌<◌, List, length, Option, Some, None, slice_get, Result, Ok, Err}
 use Rattle.std.specs.Option.{ForSome}
+use Rattle.sha2.specs.Sha256.{sha256}
 use Rattle.cm_tree.specs.declared.scan_fault.ScanFault.{ScanFault}
 use Rattle.cm_tree.specs.declared.scan_fault.ScanFault.TheVariants.{Folder, TooManyFiles, BadPath, SamePath, FileTooLong, Memory}
 use Rattle.cm_tree.specs.declared.taken.Taken.{Taken}
@@ -52,6 +53,14 @@ IsNextPath shown taken n (Err Memory) = Unit {0}
 -- bytes that agree with what is told of a file
 abbrev pub AreBytes : Option (List ℕ) → List ℕ → Type 0
 AreBytes told bytes = ForSome told (λ all. bytes ≡ all)
+
+-- the size and the SHA-256 of bytes that agree with what is told of a file
+pub record IsHashOf (told : Option (List ℕ)) (most_bytes size : ℕ) (hash : List ℕ) : Type 0 where
+  pub bytes : List ℕ
+  pub told_so : AreBytes told bytes
+  pub few : length bytes ≤ most_bytes
+  pub size_is : size ≡ length bytes
+  pub hash_is : hash ≡ sha256 bytes
 
 -- a fault of reading file number n
 abbrev pub IsReadFault : ℕ → ℕ → Option (List ℕ) → ScanFault → Type 0

@@ -3,14 +3,15 @@ ghost use Rattle.std.specs.Prelude.{◌≡◌, ◌+◌, ◌^◌, ◌<◌, ◌≤
 ghost use Rattle.std.specs.Option.{ForSome};
 ghost use Rattle.cm_base.specs.Causes.{Rose};
 ghost use Rattle.cm_tree.specs.declared.folder.FolderFault.{FolderFault as folder_fault};
-ghost use Rattle.cm_tree.specs.Trees.{File, IsTree, manifest_of};
+ghost use Rattle.cm_tree.specs.Trees.{File, IsTree, entry_of, manifest_of};
 ghost use Rattle.cm_tree.specs.GatheredFiles.{file_of, files_of};
 ghost use Rattle.cm_tree.specs.Folders.{Tells, WasRead, MayBeRead};
 ghost use Rattle.cm_tree.specs.Scans.{Gathers, gathered as gathered_of, HasFault, Answers};
 
 use crate::taken::Taken;
 use crate::walk::{PIECE, has_room, next_path, whole_file};
-use crate::{FilePath, Folder, ScanFault};
+use crate::{Entry, FilePath, Folder, Manifest, ScanFault};
+use cm_base::{FileHasher, Memory};
 use std::alloc::Global;
 use std::marker::Model;
 
@@ -41,6 +42,33 @@ impl Model for Gathered {
     ghost invariant = { λ gathered. IsTree (files_of gathered.files.items) };
 }
 
+/// The entry of a file.
+fn entry_of_file(file: &GatheredFile) -> Entry
+    requires { length file.now.bytes.items < 2 ^ 32 }
+    ensures { result ≡ entry_of (file_of file.now) }
+{
+    let mut hasher = FileHasher::new();
+    hasher.feed(&file.bytes);
+    let (size, hash) = hasher.done();
+    Entry {
+        path: file.path,
+        size: size as u32,
+        hash,
+    }
+}
+
+/// The manifest of these files.
+fn manifest_of_files(alloc: Global, files: &[GatheredFile]) -> Result<Manifest, Memory>
+    requires { IsTree (files_of files.now) }
+    ensures { IfOk result (λ manifest. manifest ≡ manifest_of (files_of files.now)) }
+{
+    let mut entries = Vec::new(alloc);
+    for file in files {
+        entries.push(entry_of_file(file))?;
+    }
+    Ok(Manifest::of(entries))
+}
+
 impl Gathered {
     /// The files in the order of their paths.
     pub fn files(&self) -> &[GatheredFile]
@@ -48,6 +76,13 @@ impl Gathered {
         ensures tree { IsTree self.now }
     {
         &self.files
+    }
+
+    /// The manifest of the tree: the sizes and the hashes of its files.
+    pub fn manifest(&self, alloc: Global) -> Result<Manifest, Memory>
+        ensures { IfOk result (λ manifest. manifest ≡ manifest_of self.now) }
+    {
+        manifest_of_files(alloc, &self.files)
     }
 }
 

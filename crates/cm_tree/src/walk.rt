@@ -4,10 +4,11 @@ ghost use Rattle.cm_base.specs.Causes.{Rose};
 ghost use Rattle.cm_tree.specs.Folders.{Stays, Turns};
 ghost use Rattle.cm_tree.specs.Paths.{is_file_path};
 ghost use Rattle.cm_tree.specs.Taking.{HasTaken};
-ghost use Rattle.cm_tree.specs.Walks.{MayTurn, JoinsTaken, IsPathFault, IsNextPath, AreBytes, IsReadFault, IsRoomFault};
+ghost use Rattle.cm_tree.specs.Walks.{MayTurn, JoinsTaken, IsPathFault, IsNextPath, AreBytes, IsHashOf, IsReadFault, IsRoomFault};
 
 use crate::taken::Taken;
 use crate::{FilePath, Folder, ScanFault};
+use cm_base::{FileHasher, Hash};
 use std::alloc::Global;
 
 /// How many bytes are asked for at once.
@@ -92,6 +93,42 @@ pub(crate) fn whole_file<F: Folder>(
             Err(_) => return Err(ScanFault::Folder),
         }
         if file.len() > most_bytes as usize {
+            return Err(ScanFault::FileTooLong { entry: n });
+        }
+    }
+}
+
+/// The size and the hash of a file, read to its end in pieces.
+pub(crate) fn hashed_file<F: Folder>(
+    folder: &mut F,
+    n: u32,
+    most_bytes: u32,
+    piece: &mut [u8],
+) -> Result<(u32, Hash), ScanFault>
+    requires room { 0 < length piece.old }
+    requires small { length piece.old ≤ 65536 }
+    ensures hash { IfOk result (λ found. IsHashOf ((F.shows folder.old).now n) most_bytes found.0 found.1.0) }
+    ensures fault { IfErr result (IsReadFault most_bytes n ((F.shows folder.old).now n)) }
+    ensures read { OnOk result (Turns n true (F.shows folder.old) (F.shows folder.new)) }
+    ensures failed { OnErr result (MayTurn n (F.shows folder.old) (F.shows folder.new)) }
+    ensures later { F.faults folder.old ≤ F.faults folder.new }
+    ensures cause { IsErrOf result ScanFault.Folder → Rose (F.faults folder.old) (F.faults folder.new) }
+{
+    let mut hasher = FileHasher::new();
+    let mut at: u64 = 0;
+    'pieces: loop {
+        match folder.read_at(n, at, piece) {
+            Ok(0) => {
+                let done = hasher.done();
+                return Ok((at as u32, done.1));
+            }
+            Ok(count) => {
+                hasher.feed(&piece[..count]);
+                at += count as u64;
+            }
+            Err(_) => return Err(ScanFault::Folder),
+        }
+        if at > most_bytes as u64 {
             return Err(ScanFault::FileTooLong { entry: n });
         }
     }
