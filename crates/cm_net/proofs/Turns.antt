@@ -1,0 +1,89 @@
+-- Spans added one by one, and stretches added at the end.
+use Rattle.std.proofs.Common.{◌≡◌, ℕ, ◌<◌, ◌≤◌, Bool, true, false, leb, List, [], ◌∷◌, ◌++◌, map, Option, None, Some, refl, sym, ap, ◌∙◌, arith, cond, MatchOption}
+use Rattle.std.specs.List.{filter}
+use Rattle.std.proofs.lemmas.List.{map-append, append-nil}
+use Rattle.std.proofs.lemmas.List.Elements.{filter-append}
+use Rattle.std.proofs.lemmas.List.Sums.{fold-append}
+use Rattle.cm_net.specs.declared.span.Span.{Span}
+use Rattle.cm_net.specs.declared.stretches.Stretch.{Stretch}
+use Rattle.std.proofs.Common.{inl, inr}
+use Rattle.std.proofs.lemmas.Bool.{cases_lt, le-leb, lt-leb}
+use Rattle.cm_net.specs.declared.boundary.Boundary.{Boundary}
+use Rattle.cm_net.specs.Boundaries.{is_between}
+use Rattle.cm_net.specs.Groups.{numbers_of, IsRisingOf}
+use Rattle.cm_net.specs.Spans.{is_in, numbers_at, groups_at, Stays, sooner_of, spans_of}
+
+-- the number of one span, where it holds the address
+abbrev pub number_if : Bool → ℕ → List ℕ
+number_if b n = cond b (n ∷ []) []
+
+one_number : (s : Span) (a : ℕ) → numbers_at (s ∷ []) a ≡ number_if (is_in a s) s.group
+one_number s a = elim (is_in a s) as (λ b. map (λ (x : Span). x.group) (cond b (s ∷ []) []) ≡ cond b (s.group ∷ []) []) [ true ↦ refl | false ↦ refl ]
+
+pub numbers_at-push : (xs : List Span) (s : Span) (a : ℕ) → numbers_at (xs ++ s ∷ []) a ≡ numbers_at xs a ++ number_if (is_in a s) s.group
+numbers_at-push xs s a =
+    ap (λ (ys : List Span). map (λ (x : Span). x.group) ys) (filter-append (is_in a) xs (s ∷ []))
+    ∙ (map-append (λ (x : Span). x.group) (filter (is_in a) xs) (filter (is_in a) (s ∷ []))
+    ∙ ap (λ (ys : List ℕ). numbers_at xs a ++ ys) (one_number s a))
+
+same_push : (xs : List Span) (s : Span) (a b : ℕ) → numbers_at xs a ≡ numbers_at xs b → is_in a s ≡ is_in b s → numbers_at (xs ++ s ∷ []) a ≡ numbers_at (xs ++ s ∷ []) b
+same_push xs s a b p q =
+    numbers_at-push xs s a ∙ (ap (λ (ys : List ℕ). ys ++ number_if (is_in a s) s.group) p
+    ∙ (ap (λ (t : Bool). numbers_at xs b ++ number_if t s.group) q ∙ sym (numbers_at-push xs s b)))
+
+pub Stays-push : (xs : List Span) (s : Span) (from : ℕ) (t u : Option ℕ) → Stays (λ a. numbers_at xs a) from t → Stays (λ a. is_in a s) from u → Stays (λ a. numbers_at (xs ++ s ∷ []) a) from (sooner_of t u)
+Stays-push xs s from None None p q = λ a low high. same_push xs s a from (p a low high) (q a low high)
+Stays-push xs s from None (Some u) p q = (q.0, q.1, λ a low high. same_push xs s a from (p a low (omega (arith, q.1, high))) (q.2 a low high))
+Stays-push xs s from (Some t) None p q = (p.0, p.1, λ a low high. same_push xs s a from (p.2 a low high) (q a low (omega (arith, p.1, high))))
+Stays-push xs s from (Some t) (Some u) p q = (omega (arith, p.0, q.0), omega (arith, p.1), λ a low high. same_push xs s a from (p.2 a low (omega (arith, high))) (q.2 a low (omega (arith, high))))
+
+pub groups_at-push : (xs : List Stretch) (s : Stretch) (a : ℕ) → groups_at (xs ++ s ∷ []) a ≡ cond (leb s.start a) s.groups.items (groups_at xs a)
+groups_at-push xs s a = fold-append (λ (found : List ℕ) (stretch : Stretch). cond (leb stretch.start a) stretch.groups.items found) [] xs (s ∷ [])
+
+-- what the stretches say of an address before a stretch that is added, and of one within it
+before_added : (spans : List Span) (xs : List Stretch) (s : Stretch) (a : ℕ) → a < s.start → IsRisingOf (numbers_at spans a) (groups_at xs a) → IsRisingOf (numbers_at spans a) (groups_at (xs ++ s ∷ []) a)
+before_added spans xs s a low old = rw (groups_at-push xs s a, lt-leb s.start a low) old
+
+within_added : (spans : List Span) (xs : List Stretch) (s : Stretch) (a : ℕ) → s.start ≤ a → numbers_at spans a ≡ numbers_at spans s.start → IsRisingOf (numbers_at spans s.start) s.groups.items → IsRisingOf (numbers_at spans a) (groups_at (xs ++ s ∷ []) a)
+within_added spans xs s a high same new = rw (groups_at-push xs s a, le-leb s.start a high, same) new
+
+pub stretch_added : (spans : List Span) (xs new : List Stretch) (s : Stretch) (a : ℕ)
+    → new ≡ xs ++ s ∷ []
+    → ((b : ℕ) → b < s.start → IsRisingOf (numbers_at spans b) (groups_at xs b))
+    → IsRisingOf (numbers_at spans s.start) s.groups.items
+    → (s.start ≤ a → numbers_at spans a ≡ numbers_at spans s.start)
+    → IsRisingOf (numbers_at spans a) (groups_at new a)
+stretch_added spans xs new s a is old right same =
+    rw is (elim (cases_lt a s.start) [ inl low ↦ before_added spans xs s a low (old a low) | inr high ↦ within_added spans xs s a high (same high) right ])
+
+-- a row added: its number follows, where its boundary holds the client
+one_row : (f : Boundary → Bool) (row : Boundary × ℕ) → numbers_of f (row ∷ []) ≡ number_if (f row.0) row.1
+one_row f row = elim (f row.0) as (λ b. map (λ (r : Boundary × ℕ). r.1) (cond b (row ∷ []) []) ≡ cond b (row.1 ∷ []) []) [ true ↦ refl | false ↦ refl ]
+
+pub numbers_of-push : (f : Boundary → Bool) (rows : List (Boundary × ℕ)) (row : Boundary × ℕ) → numbers_of f (rows ++ row ∷ []) ≡ numbers_of f rows ++ number_if (f row.0) row.1
+numbers_of-push f rows row =
+    ap (λ (rs : List (Boundary × ℕ)). map (λ (r : Boundary × ℕ). r.1) rs) (filter-append (λ (r : Boundary × ℕ). f r.0) rows (row ∷ []))
+    ∙ (map-append (λ (r : Boundary × ℕ). r.1) (filter (λ (r : Boundary × ℕ). f r.0) rows) (filter (λ (r : Boundary × ℕ). f r.0) (row ∷ []))
+    ∙ ap (λ (ys : List ℕ). numbers_of f rows ++ ys) (one_row f row))
+
+-- whether these ends, where there are any, hold the address
+abbrev pub holds_ends : Option (ℕ × ℕ) → ℕ → Bool
+holds_ends None a = false
+holds_ends (Some ends) a = is_between ends.0 ends.1 a
+
+ends_added : (xs : List Span) (ends : Option (ℕ × ℕ)) (n a : ℕ) → numbers_at (xs ++ spans_of ends n) a ≡ numbers_at xs a ++ number_if (holds_ends ends a) n
+ends_added xs None n a = ap (λ (ys : List Span). numbers_at ys a) (append-nil xs) ∙ sym (append-nil (numbers_at xs a))
+ends_added xs (Some ends) n a = numbers_at-push xs (record { first = ends.0; last = ends.1; group = n }) a
+
+pub row_added : (f : Boundary → Bool) (xs new : List Span) (rows : List (Boundary × ℕ)) (row : Boundary × ℕ) (ends : Option (ℕ × ℕ)) (a : ℕ)
+    → new ≡ xs ++ spans_of ends row.1 → f row.0 ≡ holds_ends ends a → numbers_at xs a ≡ numbers_of f rows
+    → numbers_at new a ≡ numbers_of f (rows ++ row ∷ [])
+row_added f xs new rows row ends a is same before =
+    ap (λ (ys : List Span). numbers_at ys a) is ∙ (ends_added xs ends row.1 a
+    ∙ (ap (λ (b : Bool). numbers_at xs a ++ number_if b row.1) (sym same)
+    ∙ (ap (λ (ys : List ℕ). ys ++ number_if (f row.0) row.1) before ∙ sym (numbers_of-push f rows row))))
+
+-- what the ends of a boundary say
+pub ends_say : (n : ℕ) (ends : Option (ℕ × ℕ)) (test : ℕ → Bool) → MatchOption ends ((a : ℕ) → a < n → test a ≡ false) (λ e. (a : ℕ) → a < n → test a ≡ is_between e.0 e.1 a) → (a : ℕ) → a < n → test a ≡ holds_ends ends a
+ends_say n None test h a small = h a small
+ends_say n (Some ends) test h a small = h a small

@@ -1,0 +1,8 @@
+use Rattle.std.proofs.Common.{◌≡◌, Some, take}
+use Rattle.cm_net.specs.FourReader.{four_of, step4}
+use Rattle.cm_net.proofs.Machines.{run}
+use Rattle.cm_net.proofs.FourTexts.{start4}
+use Rattle.cm_net.proofs.boundary_text.bits_of.Given as goal
+
+abbrev pub invariant-loop-byte : goal.invariant-loop-byte
+invariant-loop-byte l = run step4 (Some start4) (take l.byte-index l.text) ≡ Some (four_of l.reader)

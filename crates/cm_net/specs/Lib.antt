@@ -1,0 +1,14 @@
+pub mod Addresses
+pub mod Boundaries
+pub mod Faults
+pub mod FourReader
+pub mod Free
+pub mod Groups
+pub mod Indexed
+pub mod Numbers
+pub mod Sites
+pub mod SixReader
+pub mod Spans
+pub mod Spellings
+pub mod Texts
+pub mod Written

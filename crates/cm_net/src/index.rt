@@ -1,0 +1,124 @@
+//! The index from a client to its groups.
+ghost use Rattle.std.specs.Prelude.{◌≡◌, ◌++◌, ℕ, ◌<◌, ◌^◌, IfOk, OnOk, All};
+ghost use Rattle.std.specs.Option.{option_copied};
+ghost use Rattle.cm_net.specs.Boundaries.{holds_address, holds_site, IsSound};
+ghost use Rattle.cm_net.specs.Groups.{numbers_of, IsRisingOf};
+ghost use Rattle.cm_net.specs.Spans.{numbers_at, spans_of};
+
+use crate::sites::{SiteGroups, groups_of_site, sites_of};
+use crate::span::{Span, ends4, ends6};
+use crate::stretches::{Stretch, groups_at, stretches_of};
+use crate::{Address, Boundary, SiteName, Steps};
+use cm_base::Memory;
+use std::alloc::{AllocError, Global};
+use std::marker::Model;
+use std::snapshot::Snapshot;
+use std::sync::ledger::Ledger;
+
+/// Finds the groups of a client. Contracts see the rows that it was built from: boundaries, each with the number of the
+/// group that has it.
+#[derive(Drop)]
+pub struct Index {
+    four: Vec<Stretch>,
+    six: Vec<Stretch>,
+    sites: Vec<SiteGroups>,
+    rows: Snapshot<Vec<(Boundary, u16)>>,
+}
+
+impl Model for Index {
+    ghost use Rattle.std.specs.Prelude.{ℕ, List};
+    ghost use Rattle.cm_net.specs.declared.boundary.Boundary.{Boundary};
+    ghost use Rattle.cm_net.specs.Indexed.{IsIndexOf};
+
+    ghost Value = { List (Boundary × ℕ) };
+
+    ghost view = { λ index. index.rows.value.items };
+
+    ghost invariant = { λ index. IsIndexOf index.rows.value.items index.four.items index.six.items index.sites.items };
+}
+
+/// Adds the span from the one end to the other, where there are ends.
+fn add_span(spans: &mut Vec<Span>, ends: Option<(u128, u128)>, group: u16) -> Result<(), AllocError>
+    ensures { OnOk result (spans.new.items ≡ spans.old.items ++ spans_of ends group) }
+{
+    if let Some((first, last)) = ends {
+        spans.push(Span { first, last, group })?;
+    }
+    Ok(())
+}
+
+/// The spans of the IPv4 addresses of the rows, in the order of the rows.
+fn spans4(alloc: Global, rows: &[(Boundary, u16)]) -> Result<Vec<Span>, AllocError>
+    requires { All (λ row. IsSound row.0) rows.now }
+    ensures { IfOk result (λ spans. (address : ℕ) → address < 2 ^ 32
+        → numbers_at spans.items address ≡ numbers_of (λ boundary. holds_address boundary (Address.V4 address)) rows.now) }
+{
+    let mut spans = Vec::new(alloc);
+    for (boundary, group) in rows {
+        add_span(&mut spans, ends4(boundary), *group)?;
+    }
+    Ok(spans)
+}
+
+/// The spans of the IPv6 addresses of the rows, in the order of the rows.
+fn spans6(alloc: Global, rows: &[(Boundary, u16)]) -> Result<Vec<Span>, AllocError>
+    requires { All (λ row. IsSound row.0) rows.now }
+    ensures { IfOk result (λ spans. (address : ℕ) → address < 2 ^ 128
+        → numbers_at spans.items address ≡ numbers_of (λ boundary. holds_address boundary (Address.V6 address)) rows.now) }
+{
+    let mut spans = Vec::new(alloc);
+    for (boundary, group) in rows {
+        add_span(&mut spans, ends6(boundary), *group)?;
+    }
+    Ok(spans)
+}
+
+impl Index {
+    /// The index of these rows.
+    pub fn build(alloc: Global, rows: &[(Boundary, u16)]) -> Result<Index, Memory>
+        requires { All (λ row. IsSound row.0) rows.now }
+        ensures { IfOk result (λ index. index ≡ rows.now) }
+    {
+        let copy = Vec::from_slice(alloc, rows)?;
+        Ok(Index {
+            four: stretches_of(alloc, &spans4(alloc, rows)?)?,
+            six: stretches_of(alloc, &spans6(alloc, rows)?)?,
+            sites: sites_of(alloc, rows)?,
+            rows: Snapshot::of(&copy),
+        })
+    }
+
+    /// The numbers of the groups that have the client by its address.
+    fn by_address<L: Ledger>(&self, address: Address, steps: &mut Steps<L>) -> &[u16]
+        ensures { IsRisingOf (numbers_of (λ boundary. holds_address boundary address) self.now) result.now }
+    {
+        match address {
+            Address::V4(address) => groups_at(&self.four, u128::from(address), steps),
+            Address::V6(address) => groups_at(&self.six, address, steps),
+        }
+    }
+
+    /// The numbers of the groups that have the client by its site.
+    fn by_site<L: Ledger>(&self, site: Option<&SiteName>, steps: &mut Steps<L>) -> &[u16]
+        ensures { IsRisingOf (numbers_of (λ boundary. holds_site boundary (option_copied site.entry)) self.now) result.now }
+    {
+        match site {
+            Some(name) => groups_of_site(&self.sites, name, steps),
+            None => &[],
+        }
+    }
+
+    /// The numbers of the groups that have the client by its address, and of those that have it by its site, each list
+    /// rising. One step is one look at the begin of a stretch of addresses or at the name of a site.
+    pub fn of<L: Ledger>(
+        &self,
+        address: Address,
+        site: Option<&SiteName>,
+        steps: &mut Steps<L>,
+    ) -> (&[u16], &[u16])
+        ensures address { IsRisingOf (numbers_of (λ boundary. holds_address boundary address) self.now) result.0.now }
+        ensures site { IsRisingOf (numbers_of (λ boundary. holds_site boundary (option_copied site.entry)) self.now) result.1.now }
+    {
+        (self.by_address(address, steps), self.by_site(site, steps))
+    }
+}

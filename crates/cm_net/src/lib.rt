@@ -1,0 +1,35 @@
+//! Addresses, site names, boundaries, and the index from a client to its groups.
+#![tactic(auto)]
+
+mod address;
+mod address_spelling;
+mod address_text;
+mod boundary;
+mod boundary_reader;
+mod boundary_spelling;
+mod boundary_text;
+mod fault;
+mod four_reader;
+mod index;
+mod meaning;
+mod membership;
+mod numbers;
+mod site_name;
+mod site_text;
+mod sites;
+mod six_groups;
+mod six_reader;
+mod span;
+mod steps;
+mod stretches;
+#[cfg(test)]
+mod tests;
+
+pub use address::Address;
+pub use boundary::Boundary;
+pub use fault::NetFault;
+pub use index::Index;
+pub use meaning::one_meaning;
+pub use membership::inside;
+pub use site_name::SiteName;
+pub use steps::Steps;
