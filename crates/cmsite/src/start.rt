@@ -5,7 +5,7 @@ use crate::output::HostSink;
 use cm_base::{Memory, ServerName};
 use cm_disk::HostDisk;
 use cm_top::{Bay, run};
-use cm_tree::MemFolder;
+use cm_tree::HostFolder;
 use std::alloc::Global;
 use std::{env, io};
 
@@ -32,6 +32,14 @@ fn base_of(arguments: &[String]) -> &str {
     arguments[0].as_str()
 }
 
+// The folder that is added from: the second of two arguments or more.
+fn folder_of(arguments: &[String]) -> &str {
+    if arguments.len() < 2 {
+        return "-";
+    }
+    arguments[1].as_str()
+}
+
 // The words: the arguments behind the first two.
 fn words_of(arguments: &[String]) -> &[String] {
     if arguments.len() < 2 {
@@ -48,7 +56,7 @@ fn site_folder(alloc: Global, base: &str) -> Result<String, Memory> {
 }
 
 /// Runs the command of the arguments, and answers its status. The first argument is the base folder, the second one the
-/// folder that is added from, which no command reads yet; with fewer than two there are no words.
+/// folder that is added from; with fewer than two there are no words.
 pub(crate) fn start(rt: &HostRuntime) -> Result<u8, Memory> {
     let alloc = rt.alloc();
     let arguments = arguments(rt)?;
@@ -59,7 +67,7 @@ pub(crate) fn start(rt: &HostRuntime) -> Result<u8, Memory> {
         rt.clone()?,
         site_folder(alloc, base_of(&arguments))?.as_str(),
     )?;
-    let mut folder = MemFolder::new(alloc, Vec::new(alloc), Vec::new(alloc), Vec::new(alloc))?;
+    let mut folder = HostFolder::new(rt.clone()?, folder_of(&arguments))?;
     let mut bays = Vec::new(alloc);
     bays.push(Bay { name, disk })?;
     let mut input = HostSource {
