@@ -1,11 +1,11 @@
 -- The laws of the grammar: what is read is spelled so, and what is spelled so is read.
-use Rattle.std.proofs.Common.{◌≡◌, ℕ, zero, suc, ◌+◌, ◌-◌, ◌^◌, ◌<◌, ◌≤◌, Bool, true, false, cond, not, ◌&&◌, ◌||◌, ltb, eqb, List, [], ◌∷◌, ◌++◌, map, length, get_or, take, drop, Result, Ok, Err, refl, sym, ap, subst, ◌∙◌, append_assoc, arith, inl, inr}
+use Rattle.std.proofs.Common.{◌≡◌, ℕ, zero, suc, ◌-◌, ◌^◌, ◌<◌, ◌≤◌, true, false, cond, not, ◌||◌, ltb, eqb, List, [], ◌∷◌, ◌++◌, map, length, get_or, Result, Ok, Err, refl, sym, ap, subst, ◌∙◌, append_assoc, arith}
 use Rattle.std.specs.Str.{bytes_eq}
 use Rattle.std.specs.List.{flat_map, AllByRecursion}
-use Rattle.std.specs.Int.{Width, w8, w32, to_le_bytes}
-use Rattle.std.proofs.lemmas.Bool.{ltb-false, le-ltb, eqb-true, eq-eqb, eqb-false, ne_eqb, or_parts, or_from, not-true, not-false, and_from, not_from_true}
+use Rattle.std.specs.Int.{w8, w32, to_le_bytes}
+use Rattle.std.proofs.lemmas.Bool.{ltb-false, le-ltb, eqb-true, ne_eqb, not-false}
 use Rattle.std.specs.Cmp.Lexicographic.{bytes_decides}
-use Rattle.std.proofs.lemmas.List.{map-append, append-nil, nil_from_length, length-append}
+use Rattle.std.proofs.lemmas.List.{map-append, append-nil, nil_from_length}
 use Rattle.std.proofs.lemmas.Bool.Decides.{nat_tests}
 use Rattle.std.proofs.lemmas.List.Concat.{flat_map-cons}
 use Rattle.std.proofs.lemmas.List.Elements.{All-from_recursion}
@@ -15,7 +15,7 @@ use Rattle.cm_tree.specs.declared.tree_fault.TreeFault.TheVariants.{BadForm, Bad
 use Rattle.cm_tree.specs.Paths.{is_file_path, is_rising, is_apart, has_path, folded_path}
 use Rattle.cm_tree.specs.Manifests.{magic, paths_of, entry_bytes, spelling, IsEntry, IsManifest, Spells}
 use Rattle.cm_tree.specs.Reading.{◌>>=◌, number_at, bytes_at, text_at, row_at, is_behind, joined, entry_at, entries_at, magic_at, form_at, count_at, header_at, end_at, read_manifest}
-use Rattle.cm_tree.proofs.Fields.{IsBytes, IsBytes-drop, bind_ok, passed, held, ok_is, Takes, Takes-then, bytes_take, bytes_again, wide32, number_takes, number_again, byte_takes, byte_again}
+use Rattle.cm_tree.proofs.Fields.{IsBytes, bind_ok, passed, held, ok_is, Takes, Takes-then, bytes_take, bytes_again, wide32, number_takes, number_again, byte_takes, byte_again}
 use Rattle.cm_tree.proofs.EntriesLoop.{paths_of-push}
 use Rattle.cm_tree.proofs.Rising.{rising_push, rising_front, rising_last, apart_push, apart_front, apart_last}
 

@@ -1,5 +1,5 @@
 -- The loop over the entries of a manifest.
-use Rattle.std.proofs.Common.{◌≡◌, ℕ, suc, ◌+◌, ◌-◌, ◌<◌, ◌≤◌, List, [], ◌∷◌, ◌++◌, map, length, Result, Ok, Err, refl, sym, ap, ◌∙◌, subst, arith}
+use Rattle.std.proofs.Common.{◌≡◌, ℕ, suc, ◌+◌, ◌-◌, ◌<◌, ◌≤◌, List, [], ◌∷◌, ◌++◌, Result, Ok, Err, refl, sym, ◌∙◌, subst, arith}
 use Rattle.std.proofs.lemmas.List.{map-append}
 use Rattle.cm_tree.specs.declared.entry.Entry.{Entry}
 use Rattle.cm_tree.specs.declared.taken.Taken.{Taken}
@@ -7,7 +7,7 @@ use Rattle.cm_tree.specs.declared.tree_fault.TreeFault.{TreeFault}
 use Rattle.cm_tree.specs.declared.tree_fault.TreeFault.TheVariants.{BadForm, BadPath, Unsorted, SamePath, TooManyFiles, Memory}
 use Rattle.cm_tree.specs.Manifests.{paths_of}
 use Rattle.cm_tree.specs.Taking.{HasTaken}
-use Rattle.cm_tree.specs.Reading.{◌>>=◌, Fails, entry_at, entries_at}
+use Rattle.cm_tree.specs.Reading.{Fails, entry_at, entries_at}
 
 -- one entry more
 pub goes_on : (count i total : ℕ) (before : List Entry) (bytes : List ℕ) (entry : Entry) (after : List ℕ) (whole : Result (List Entry × List ℕ) TreeFault)

@@ -1,5 +1,5 @@
 -- Files in memory in the order of their paths.
-use Rattle.std.proofs.Common.{◌≡◌, ◌⊎◌, ℕ, zero, suc, ◌+◌, ◌-◌, ◌<◌, ◌≤◌, Bool, true, false, ◌&&◌, ◌||◌, not, cond, List, [], ◌∷◌, ◌++◌, length, take, drop, map, Option, None, Some, option_map, refl, sym, ap, ◌∙◌, subst, arith, inl, inr}
+use Rattle.std.proofs.Common.{◌≡◌, ℕ, zero, suc, ◌+◌, ◌-◌, ◌<◌, ◌≤◌, Bool, true, false, ◌||◌, cond, List, [], ◌∷◌, ◌++◌, length, take, drop, map, Option, None, Some, option_map, refl, sym, ap, ◌∙◌, subst, arith, inl, inr}
 use Rattle.std.specs.Prelude.{insert, is_some, Vec}
 use Rattle.std.specs.declared.alloc.Global.{Global}
 use Rattle.std.specs.Option.{option_or}
@@ -17,11 +17,11 @@ use Rattle.std.proofs.Math.ListN.{set, get_or}
 use Rattle.std.proofs.lemmas.List.Folds.{list_any-append, find-append}
 use Rattle.std.proofs.lemmas.Map.Text.{is_eq-slice_cmp}
 use Rattle.cm_tree.specs.declared.mem_file.MemFile.{MemFile}
-use Rattle.cm_tree.specs.Paths.{is_before, is_same, is_rising}
-use Rattle.cm_tree.specs.Folders.{Shown, Turns}
+use Rattle.cm_tree.specs.Paths.{is_before, is_rising}
+use Rattle.cm_tree.specs.Folders.{Turns}
 use Rattle.cm_tree.specs.Reading.{is_behind}
 use Rattle.cm_tree.specs.MemFolders.{Pair, bytes_named, is_listed_in, or_else, kept_path, kept_now, later_or, kept_later, kept_paths, is_kept_path, kept_shown, IsMadeOf}
-use Rattle.cm_tree.specs.MemPlaces.{IsPlaceOf, IsFileOf, IsPut, IsJoinedBy}
+use Rattle.cm_tree.specs.MemPlaces.{IsPlaceOf, IsJoinedBy}
 use Rattle.cm_tree.proofs.Folding.{same_back}
 use Rattle.cm_tree.proofs.Places.{get_below, take_push}
 use Rattle.cm_tree.proofs.Rising.{rising_push, rising_front}

@@ -1,12 +1,11 @@
 -- Paths of the host that rise.
-use Rattle.std.proofs.Common.{◌≡◌, ℕ, suc, ◌+◌, ◌-◌, ◌<◌, ◌≤◌, true, false, Bool, List, ◌∷◌, [], ◌++◌, length, take, Option, Some, None, option_map, refl, sym, ap, ◌∙◌, arith}
+use Rattle.std.proofs.Common.{◌≡◌, ℕ, suc, ◌+◌, ◌-◌, ◌<◌, ◌≤◌, true, List, length, take, Option, Some, option_map, sym, ap, ◌∙◌, arith}
 use Rattle.std.specs.Prelude.{String, string_bytes}
 use Rattle.std.specs.declared.alloc.Global.{Global}
 use Rattle.std.specs.List.{slice_get}
 use Rattle.std.proofs.Math.ListN.{get_or}
 use Rattle.std.proofs.lemmas.Option.{slice_get-map}
 use Rattle.cm_tree.specs.Paths.{is_before, is_rising}
-use Rattle.cm_tree.specs.Folders.{Shown, Turns}
 use Rattle.cm_tree.specs.Reading.{is_behind}
 use Rattle.cm_tree.specs.HostFolders.{texts_of}
 use Rattle.cm_tree.proofs.Kept.{get_here, behind_at}

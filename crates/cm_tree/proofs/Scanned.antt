@@ -1,5 +1,5 @@
 -- A scan of a folder so far.
-use Rattle.std.proofs.Common.{◌≡◌, ℕ, ◌+◌, ◌<◌, ◌≤◌, ◌^◌, true, List, [], ◌∷◌, ◌++◌, length, take, get_or, map, Option, Some, option_map, Result, Ok, Err, refl, sym, ap, ◌∙◌, subst, arith}
+use Rattle.std.proofs.Common.{◌≡◌, ℕ, ◌+◌, ◌<◌, ◌≤◌, ◌^◌, true, List, [], ◌∷◌, ◌++◌, length, take, get_or, Option, Some, option_map, Result, Ok, Err, refl, sym, ap, ◌∙◌, subst, arith}
 use Rattle.std.specs.Prelude.{IfOk, IfErr}
 use Rattle.std.specs.List.{slice_get, AllByRecursion}
 use Rattle.std.proofs.lemmas.List.{map-append}
@@ -12,7 +12,7 @@ use Rattle.cm_tree.specs.Paths.{is_rising, is_apart}
 use Rattle.cm_tree.specs.Manifests.{paths_of, IsEntry, IsManifest}
 use Rattle.cm_tree.specs.Trees.{File, file_paths, IsFile, IsTree, entry_of, manifest_of}
 use Rattle.cm_tree.specs.Folders.{Shown, Stays, Turns, Tells}
-use Rattle.cm_tree.specs.Scans.{path_fault, Gathers, Scans, HasFault, Answers, scanned}
+use Rattle.cm_tree.specs.Scans.{Scans, HasFault, Answers, scanned}
 use Rattle.cm_tree.specs.Taking.{HasTaken}
 use Rattle.cm_tree.specs.Walks.{JoinsTaken, IsHashOf}
 use Rattle.std.proofs.lemmas.Option.{slice_get-map}

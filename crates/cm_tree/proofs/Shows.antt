@@ -1,18 +1,16 @@
 -- What a folder shows after a call.
-use Rattle.std.proofs.Common.{◌≡◌, ◌≢◌, ◌⊎◌, ℕ, zero, suc, ◌∷◌, ◌+◌, ◌<◌, ◌≤◌, Bool, true, false, ◌&&◌, cond, not, List, [], ◌++◌, length, take, drop, map, Option, None, Some, option_map, Result, Ok, Err, refl, sym, ap, ◌∙◌, subst, arith, inl, inr}
+use Rattle.std.proofs.Common.{◌≡◌, ℕ, zero, suc, ◌∷◌, ◌<◌, Bool, true, false, ◌&&◌, List, [], length, take, Option, Some, option_map, Ok, Err, refl, sym, ap, ◌∙◌, subst, arith, inl, inr}
 use Rattle.std.specs.Result.{IsErrOf}
-use Rattle.std.specs.List.{slice_get, list_all}
-use Rattle.std.proofs.lemmas.Bool.{cases_eq, cases_lt, ne_eqb, eq-eqb, le-leb, lt-leb, lt-ltb, and_left, and_right, and_parts, leb-true}
+use Rattle.std.specs.List.{slice_get}
+use Rattle.std.proofs.lemmas.Bool.{cases_eq, cases_lt, ne_eqb, lt-leb, and_left}
 use Rattle.std.proofs.lemmas.List.{take_all, length-take-le}
-use Rattle.cm_tree.specs.declared.folder.FolderFault.{FolderFault}
 use Rattle.cm_tree.specs.declared.scan_fault.ScanFault.{ScanFault}
 use Rattle.cm_tree.specs.declared.scan_fault.ScanFault.TheVariants.{Folder, TooManyFiles, BadPath, SamePath, FileTooLong, Memory}
 use Rattle.cm_tree.specs.declared.taken.Taken.{Taken}
-use Rattle.cm_tree.specs.Paths.{is_file_path, is_path_byte, is_dots, parts_of, has_path, folded_path}
+use Rattle.cm_tree.specs.Paths.{is_file_path}
 use Rattle.cm_tree.specs.Folders.{Shown, Stays, Turns, is_end, raw_path}
 use Rattle.cm_tree.specs.Scans.{path_fault}
-use Rattle.cm_tree.specs.Taking.{HasTaken}
-use Rattle.cm_tree.specs.Walks.{MayTurn, JoinsTaken, IsJoined, IsPathFault, IsNextPath}
+use Rattle.cm_tree.specs.Walks.{JoinsTaken, IsPathFault, IsNextPath}
 
 -- a reading that gave some bytes changes nothing
 pub turn_stays : (n : ℕ) (old new : Shown) → Turns n false old new → Stays old new

@@ -1,10 +1,10 @@
 -- A walk over a folder so far.
-use Rattle.std.proofs.Common.{◌≡◌, ◌≢◌, ◌⊎◌, ℕ, zero, suc, ◌+◌, ◌<◌, ◌≤◌, ◌^◌, Bool, true, false, cond, not, ltb, List, [], ◌∷◌, ◌++◌, length, take, drop, map, Option, None, Some, Result, Ok, Err, refl, sym, ap, ◌∙◌, subst, append_assoc, arith, inl, inr}
-use Rattle.std.specs.Option.{ForSome, unwrap_or}
+use Rattle.std.proofs.Common.{◌≡◌, ◌⊎◌, ℕ, zero, suc, ◌+◌, ◌<◌, ◌≤◌, ◌^◌, Bool, true, false, cond, not, ltb, List, [], ◌∷◌, ◌++◌, length, take, drop, map, Option, None, Some, Result, Ok, Err, refl, sym, ap, ◌∙◌, subst, append_assoc, arith, inl, inr}
+use Rattle.std.specs.Option.{unwrap_or}
 use Rattle.std.specs.Result.{OnErr}
 use Rattle.std.specs.List.{slice_get, AllByRecursion}
 use Rattle.std.proofs.lemmas.Bool.{cases_eq, cases_lt, lt-ltb, le-ltb, ltb-false, not-false}
-use Rattle.std.proofs.lemmas.List.{map-append, append-nil, length-append, take-append-drop, take_all}
+use Rattle.std.proofs.lemmas.List.{map-append, append-nil, take-append-drop, take_all}
 use Rattle.cm_tree.specs.declared.scan_fault.ScanFault.{ScanFault}
 use Rattle.cm_tree.specs.declared.scan_fault.ScanFault.TheVariants.{Folder, TooManyFiles, BadPath, SamePath, FileTooLong, Memory}
 use Rattle.cm_tree.specs.declared.taken.Taken.{Taken}
@@ -14,7 +14,7 @@ use Rattle.cm_tree.specs.Folders.{Shown, Stays, Turns, Agrees, WasRead, MayBeRea
 use Rattle.cm_tree.specs.Scans.{path_fault, length_fault, file_fault, files_fault, first_of, first_fault, HasFault}
 use Rattle.cm_tree.specs.Taking.{HasTaken}
 use Rattle.cm_tree.specs.Walks.{MayTurn, IsNextPath, AreBytes, IsReadFault, IsRoomFault}
-use Rattle.cm_tree.proofs.Places.{get_below, take_push, put_back, get_append}
+use Rattle.cm_tree.proofs.Places.{take_push, put_back, get_append}
 use Rattle.cm_tree.proofs.Rising.{rising_front, apart_push}
 
 -- ---- faults of files

@@ -1,5 +1,5 @@
 -- What a folder shows, and what a reading of one of its files gives.
-use Rattle.std.specs.Prelude.{◌≡◌, ◌≢◌, ◌⊎◌, ℕ, ◌+◌, ◌<◌, ◌≤◌, ◌&&◌, ◌==◌, nat_lt, Bool, false, List, length, take, drop, map, Option, Some, slice_get, option_map, Result, Ok, Err, if◌then◌else◌}
+use Rattle.std.specs.Prelude.{◌≡◌, ◌≢◌, ◌⊎◌, ℕ, ◌+◌, ◌<◌, ◌≤◌, ◌&&◌, ◌==◌, nat_lt, Bool, false, List, length, take, drop, Option, Some, slice_get, option_map, Result, Ok, Err, if◌then◌else◌}
 use Rattle.std.specs.Option.{ForSome}
 use Rattle.cm_tree.specs.declared.folder.FolderFault.{FolderFault}
 use Rattle.cm_tree.specs.Trees.{File, file_paths}

@@ -1,5 +1,5 @@
 -- A tree in memory.
-use Rattle.std.specs.Prelude.{ℕ, List, map}
+use Rattle.std.specs.Prelude.{List, map}
 use Rattle.cm_tree.specs.declared.gathered.GatheredFile.{GatheredFile}
 use Rattle.cm_tree.specs.Trees.{File}
 

@@ -1,5 +1,5 @@
 -- A folder of the host.
-use Rattle.std.specs.Prelude.{ℕ, List, map, Option, None, string_bytes}
+use Rattle.std.specs.Prelude.{ℕ, List, map, None, string_bytes}
 use Rattle.std.specs.Prelude.{String}
 use Rattle.std.specs.declared.alloc.Global.{Global}
 use Rattle.cm_tree.specs.Folders.{Shown}

@@ -1,5 +1,5 @@
 -- The place of a path among files in the order of their paths.
-use Rattle.std.specs.Prelude.{◌≡◌, ◌⊎◌, ℕ, ◌≤◌, true, false, List, length, take, insert, Option, None, Some, option_map, slice_get}
+use Rattle.std.specs.Prelude.{◌≡◌, ◌⊎◌, ℕ, ◌≤◌, true, false, List, length, take, insert, Some, option_map, slice_get}
 use Rattle.cm_tree.specs.declared.mem_file.MemFile.{MemFile}
 use Rattle.cm_tree.specs.Paths.{is_before}
 use Rattle.cm_tree.specs.Reading.{is_behind}

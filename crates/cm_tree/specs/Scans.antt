@@ -4,7 +4,7 @@ use Rattle.cm_tree.specs.declared.entry.Entry.{Entry}
 use Rattle.cm_tree.specs.declared.scan_fault.ScanFault.{ScanFault}
 use Rattle.cm_tree.specs.declared.scan_fault.ScanFault.TheVariants.{Folder, TooManyFiles, BadPath, SamePath, FileTooLong, Memory}
 use Rattle.cm_tree.specs.Paths.{is_file_path, has_path, folded_path}
-use Rattle.cm_tree.specs.Trees.{File, file_paths, IsTree, manifest_of}
+use Rattle.cm_tree.specs.Trees.{File, IsTree, manifest_of}
 use Rattle.cm_tree.specs.Folders.{Shown, Agrees}
 
 -- what is wrong with a path behind those before it: first its form, then that it is the same as one of them after folding

@@ -1,5 +1,5 @@
 -- Paths that were taken already, folded, in an ordered set.
-use Rattle.std.specs.Prelude.{◌≡◌, ℕ, not, List, map}
+use Rattle.std.specs.Prelude.{◌≡◌, ℕ, List, map}
 use Rattle.std.specs.BTreeSet.{contains}
 use Rattle.std.specs.Ordering.{nat_cmp}
 use Rattle.std.specs.Cmp.Lexicographic.{slice_cmp}

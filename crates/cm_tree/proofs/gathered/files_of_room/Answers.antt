@@ -1,15 +1,14 @@
-use Rattle.std.proofs.Common.{◌≡◌, ℕ, ◌+◌, ◌≤◌, ◌∷◌, ◌++◌, [], List, Option, Some, None, map, length, refl, sym, ap, ◌∙◌, subst, arith}
+use Rattle.std.proofs.Common.{◌≡◌, ℕ, ◌≤◌, ◌∷◌, ◌++◌, [], List, Some, length, sym, ap, ◌∙◌, subst, arith}
 use Rattle.std.specs.List.{slice_get}
 use Rattle.std.proofs.lemmas.List.{map-append}
 use Rattle.cm_tree.specs.declared.gathered.GatheredFile.{GatheredFile}
-use Rattle.cm_tree.specs.Trees.{File, IsTree, file_paths}
+use Rattle.cm_tree.specs.Trees.{File, file_paths}
 use Rattle.cm_tree.specs.GatheredFiles.{file_of, files_of}
 use Rattle.cm_tree.specs.Folders.{Shown}
-use Rattle.cm_tree.specs.Scans.{path_fault}
 use Rattle.cm_tree.specs.Taking.{HasTaken}
 use Rattle.cm_tree.specs.Walks.{AreBytes}
 use Rattle.cm_tree.proofs.Shows.{stays_self}
-use Rattle.cm_tree.proofs.Walked.{Walked, walked_start, walked_stays, walked_push, walked_agrees, walked_read, walked_clean, walked_tree, length-push, file_paths-push, length_paths, file_good, path_has, read_has, may_stay, may_walk, may_turn, turned, any_err}
+use Rattle.cm_tree.proofs.Walked.{Walked, walked_start, walked_stays, walked_push, walked_agrees, walked_read, walked_clean, walked_tree, length-push, file_paths-push, length_paths, file_good, path_has, read_has, may_walk, may_turn, turned, any_err}
 use Rattle.cm_tree.proofs.gathered.files_of_room.Goals as goal
 
 pub loop-n-init : goal.loop-n-init

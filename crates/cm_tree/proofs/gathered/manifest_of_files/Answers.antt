@@ -1,9 +1,9 @@
-use Rattle.std.proofs.Common.{◌≡◌, ◌∷◌, ◌++◌, [], List, take, length, sym, ap, ◌∙◌, subst, arith}
+use Rattle.std.proofs.Common.{◌≡◌, ◌∷◌, ◌++◌, [], List, take, sym, ap, ◌∙◌, subst}
 use Rattle.std.proofs.lemmas.List.{take_all}
 use Rattle.cm_tree.specs.declared.entry.Entry.{Entry}
 use Rattle.cm_tree.specs.declared.gathered.GatheredFile.{GatheredFile}
 use Rattle.cm_tree.specs.Manifests.{IsManifest}
-use Rattle.cm_tree.specs.Trees.{File, entry_of, manifest_of}
+use Rattle.cm_tree.specs.Trees.{File, manifest_of}
 use Rattle.cm_tree.specs.GatheredFiles.{file_of, files_of}
 use Rattle.cm_tree.proofs.Scanned.{tree_manifest, files_next, manifest_push, file_short}
 use Rattle.cm_tree.proofs.gathered.manifest_of_files.Goals as goal

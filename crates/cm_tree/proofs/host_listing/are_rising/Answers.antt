@@ -1,4 +1,4 @@
-use Rattle.std.proofs.Common.{◌≡◌, true, sym, ◌∙◌, arith}
+use Rattle.std.proofs.Common.{sym, ◌∙◌}
 use Rattle.cm_tree.proofs.Listing.{rises_on}
 use Rattle.cm_tree.proofs.host_listing.are_rising.Goals as goal
 

@@ -1,4 +1,4 @@
-use Rattle.std.proofs.Common.{◌≡◌, ◌≤◌, true, take, length}
+use Rattle.std.proofs.Common.{◌≡◌, true, take}
 use Rattle.cm_tree.specs.Paths.{is_rising}
 use Rattle.cm_tree.specs.HostFolders.{texts_of}
 use Rattle.cm_tree.proofs.host_listing.are_rising.Given as goal

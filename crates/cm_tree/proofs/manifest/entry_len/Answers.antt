@@ -1,4 +1,4 @@
-use Rattle.std.proofs.Common.{ap, ℕ, List, ◌≡◌, ◌∷◌, ◌++◌, length, arith, length-append}
+use Rattle.std.proofs.Common.{ap, ℕ, List, ◌∷◌, ◌++◌, length, arith, length-append}
 use Rattle.std.specs.Int.{w32, to_le_bytes}
 use Rattle.cm_tree.proofs.manifest.entry_len.Goals as goal
 

@@ -1,4 +1,4 @@
-use Rattle.std.proofs.Common.{◌≡◌, false, List, ap, ◌∙◌, inr, sym}
+use Rattle.std.proofs.Common.{◌≡◌, false, ◌∙◌, inr, sym}
 use Rattle.std.proofs.lemmas.Result.{on_ok_weaker}
 use Rattle.cm_tree.specs.declared.mem_file.MemFile.{MemFile}
 use Rattle.cm_tree.specs.MemFolders.{is_kept_path}

@@ -1,4 +1,4 @@
-use Rattle.std.proofs.Common.{◌≡◌, ℕ, ◌≤◌, List, length, Option, Some, false}
+use Rattle.std.proofs.Common.{◌≡◌, ℕ, ◌≤◌, List, length, Some, false}
 use Rattle.std.specs.List.{slice_get}
 use Rattle.cm_tree.specs.Paths.{is_before}
 use Rattle.cm_tree.specs.MemFolders.{kept_paths}

@@ -1,4 +1,4 @@
-use Rattle.std.proofs.Common.{◌≡◌, true, List, ap, ◌∙◌}
+use Rattle.std.proofs.Common.{List, ap, ◌∙◌}
 use Rattle.cm_tree.specs.declared.mem_file.MemFile.{MemFile}
 use Rattle.cm_tree.specs.Paths.{is_rising}
 use Rattle.cm_tree.specs.MemFolders.{kept_paths}

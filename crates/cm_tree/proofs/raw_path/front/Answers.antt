@@ -1,4 +1,4 @@
-use Rattle.std.proofs.Common.{sym, length-take-le, length-take, arith}
+use Rattle.std.proofs.Common.{sym, length-take-le, arith}
 use Rattle.std.proofs.lemmas.List.{take_all}
 use Rattle.cm_tree.proofs.raw_path.front.Goals as goal
 

@@ -1,7 +1,4 @@
-use Rattle.std.proofs.Common.{◌≡◌, ◌∷◌, ◌++◌, List, [], refl, sym, ◌∙◌, ap, subst, arith}
-use Rattle.cm_tree.specs.declared.entry.Entry.{Entry}
-use Rattle.cm_tree.specs.Manifests.{paths_of}
-use Rattle.cm_tree.specs.Taking.{HasTaken}
+use Rattle.std.proofs.Common.{◌≡◌, ◌∷◌, ◌++◌, [], arith}
 use Rattle.cm_tree.specs.Reading.{entries_at}
 use Rattle.cm_tree.proofs.EntriesLoop.{goes_on, ends, is_done, taken_more}
 use Rattle.cm_tree.proofs.reading.entries_of.Goals as goal

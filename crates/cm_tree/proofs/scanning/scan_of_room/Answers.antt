@@ -1,15 +1,12 @@
-use Rattle.std.proofs.Common.{◌≡◌, ℕ, ◌+◌, ◌≤◌, ◌∷◌, ◌++◌, [], List, Option, Some, None, Ok, length, refl, sym, ap, ◌∙◌, subst, arith}
+use Rattle.std.proofs.Common.{◌≡◌, ℕ, ◌≤◌, [], List, Some, length, refl, sym, ap, ◌∙◌, subst, arith}
 use Rattle.std.specs.List.{slice_get}
 use Rattle.cm_tree.specs.declared.entry.Entry.{Entry}
-use Rattle.cm_tree.specs.declared.taken.Taken.{Taken}
-use Rattle.cm_tree.specs.Trees.{File, file_paths, manifest_of}
+use Rattle.cm_tree.specs.Trees.{file_paths}
 use Rattle.cm_tree.specs.Folders.{Shown}
-use Rattle.cm_tree.specs.Scans.{Scans, Gathers}
-use Rattle.cm_tree.specs.Taking.{HasTaken}
-use Rattle.cm_tree.specs.Walks.{JoinsTaken}
+use Rattle.cm_tree.specs.Scans.{Scans}
 use Rattle.cm_tree.proofs.Shows.{stays_self}
-use Rattle.cm_tree.proofs.Walked.{Walked, walked_start, walked_stays, walked_agrees, walked_read, walked_clean, walked_tree, length_paths, path_has, read_has, may_walk, may_turn, turned, any_err}
-use Rattle.cm_tree.proofs.Scanned.{Scanned, stays_scanned, scans_all, scanned_push, scanned_manifest}
+use Rattle.cm_tree.proofs.Walked.{walked_start, walked_read, length_paths, path_has, read_has, may_walk, may_turn, turned, any_err}
+use Rattle.cm_tree.proofs.Scanned.{stays_scanned, scans_all, scanned_push, scanned_manifest}
 use Rattle.cm_tree.proofs.scanning.scan_of_room.Goals as goal
 
 pub loop-n-init : goal.loop-n-init

@@ -1,7 +1,7 @@
-use Rattle.std.proofs.Common.{◌≡◌, ◌<◌, take, length, length-take-le, ℕ, List, refl, arith, sym, ◌∙◌, ap, subst}
+use Rattle.std.proofs.Common.{◌≡◌, ◌<◌, length, length-take-le, refl, arith, subst}
 use Rattle.std.specs.Option.{ForSome}
 use Rattle.cm_tree.specs.Folders.{GivesPart}
-use Rattle.cm_tree.proofs.Parts.{IsFed, fed_more, fed_all, fed_long}
+use Rattle.cm_tree.proofs.Parts.{fed_more, fed_all, fed_long}
 use Rattle.cm_tree.proofs.Shows.{some_stays, stays_then}
 use Rattle.cm_tree.proofs.walk.hashed_file.Goals as goal
 

@@ -1,4 +1,3 @@
-use Rattle.std.proofs.Common.{◌≡◌, Option, Some, ◌∙◌, sym}
 use Rattle.cm_tree.proofs.Shows.{front_joins, front_fails, no_folder_fault}
 use Rattle.cm_tree.proofs.walk.next_path.Goals as goal
 

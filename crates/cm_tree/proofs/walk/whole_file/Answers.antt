@@ -1,4 +1,4 @@
-use Rattle.std.proofs.Common.{◌≡◌, ◌++◌, ◌<◌, take, length, ℕ, List, refl, arith, sym, ◌∙◌, ap, subst}
+use Rattle.std.proofs.Common.{◌≡◌, ◌++◌, ◌<◌, take, length, ℕ, List, refl, arith, sym, subst}
 use Rattle.std.specs.Option.{ForSome}
 use Rattle.cm_tree.specs.Folders.{GivesPart}
 use Rattle.cm_tree.proofs.Parts.{IsPart, told_more, told_long}

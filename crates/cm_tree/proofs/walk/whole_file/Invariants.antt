@@ -1,4 +1,4 @@
-use Rattle.std.proofs.Common.{◌≡◌, ◌+◌, ◌-◌, ◌≤◌, ◌<◌, length, take}
+use Rattle.std.proofs.Common.{◌+◌, ◌-◌, ◌≤◌, length}
 use Rattle.std.specs.Option.{ForSome}
 use Rattle.cm_tree.specs.Folders.{Stays}
 use Rattle.cm_tree.proofs.Parts.{IsPart}

@@ -1,8 +1,8 @@
-use Rattle.std.proofs.Common.{◌≡◌, ◌∷◌, ◌++◌, [], List, take, refl, sym, ap, ◌∙◌, subst, arith, length}
+use Rattle.std.proofs.Common.{◌≡◌, [], List, take, sym, ap, ◌∙◌, subst}
 use Rattle.std.proofs.lemmas.List.{take_all}
 use Rattle.cm_tree.specs.declared.mem_file.MemFile.{MemFile}
 use Rattle.cm_tree.specs.Paths.{is_rising}
-use Rattle.cm_tree.specs.MemFolders.{Pair, kept_paths, kept_shown, IsMadeOf}
+use Rattle.cm_tree.specs.MemFolders.{Pair, kept_paths}
 use Rattle.cm_tree.proofs.Kept.{AreOf, none_of, joined_of, made_of, take_next}
 use Rattle.cm_tree.proofs.mem_folder.MemFolder.new.Goals as goal
 

@@ -1,4 +1,4 @@
-use Rattle.std.proofs.Common.{◌≡◌, ℕ, List, true, cond, sym, ap, ◌∙◌, map}
+use Rattle.std.proofs.Common.{ℕ, List, true, cond, sym, ap, ◌∙◌, map}
 use Rattle.cm_tree.specs.Paths.{folded_path, has_path, is_same}
 use Rattle.cm_tree.proofs.Folding.{has_folded-push}
 use Rattle.cm_tree.proofs.taken.Taken.take.Goals as goal
