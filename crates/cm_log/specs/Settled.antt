@@ -1,8 +1,9 @@
 -- A log and its reader on a disk.
-use Rattle.std.specs.Prelude.{◌≡◌, ◌≢◌, ◌⊎◌, ℕ, ◌+◌, ◌≤◌, ◌==◌, Bool, true, List, length}
+use Rattle.std.specs.Prelude.{◌≡◌, ◌≢◌, ◌⊎◌, ℕ, ◌+◌, ◌≤◌, ◌==◌, Bool, true, List, [], ◌∷◌, length, Some}
 use Rattle.cm_disk.specs.Disk.{File, Files, bytes_of, IsImage, Only}
 use Rattle.cm_log.specs.declared.shelf.Shelf.{Shelf}
 use Rattle.cm_log.specs.declared.shelf.Side.{Side}
+use Rattle.cm_log.specs.declared.shelf.Side.TheVariants.{First, Second}
 use Rattle.cm_log.specs.declared.state.Log.{Log}
 use Rattle.cm_log.specs.declared.position.LogReader.{LogReader}
 use Rattle.cm_log.specs.Shelves.{ready_place, log_place, IsElsewhere}
@@ -103,6 +104,19 @@ pub record Makes (shelf : Shelf) (files now : Files) : Type 0 where
   pub none : shelved shelf files ≡ NoLog
   pub made : shelved shelf now ≡ fresh shelf
   pub others : (q : List ℕ) → IsElsewhere shelf q → now q ≡ files q
+
+-- the bytes of a new log that is live, of generation 1, and of one that is not, each with its closed gate
+abbrev pub live_log : List ℕ
+live_log = 1 ∷ 1 ∷ 1 ∷ 0 ∷ 0 ∷ 0 ∷ 0 ∷ 0 ∷ 0 ∷ 0 ∷ 0 ∷ []
+
+abbrev pub idle_log : List ℕ
+idle_log = 0 ∷ 1 ∷ 0 ∷ 0 ∷ 0 ∷ 0 ∷ 0 ∷ 0 ∷ 0 ∷ 0 ∷ 0 ∷ []
+
+-- the three places hold the bytes of a new log
+pub record HasNewLog (shelf : Shelf) (files : Files) : Type 0 where
+  pub ready : files (ready_place shelf) ≡ Some []
+  pub first : files (log_place shelf First) ≡ Some live_log
+  pub second : files (log_place shelf Second) ≡ Some idle_log
 
 -- a record more, and nothing else has changed
 pub record Adds (shelf : Shelf) (place : List ℕ) (files now : Files) (body : List ℕ) : Type 0 where

@@ -148,3 +148,26 @@ returns-clause-rests g c x told =
     (λ left l. c.in_ok-write_file.ensures.durable start.0 start.1 left (c.write_file-2.ensures.others first left first_second (c.write_file-3.ensures.others first left first_ready l))))
     (subst (λ (f : File). Only f (d.may_leave c.write_file-3.new.disk second)) (sym (put_there two ready (Some []) second second_ready ∙ put_here one second (Some idle_bytes)))
     (λ left l. c.in_ok-write_file-2.ensures.durable one told_one left (c.write_file-3.ensures.others second left second_ready l))))
+
+pub returns-clause-bytes : goal.returns-clause-bytes
+returns-clause-bytes g c x told =
+    let ready = c.ready_at-ready.result in
+    let first = c.log_at-first.result in
+    let second = c.log_at-second.result in
+    let start = c.size.ensures.same ∙ (c.sync.ensures.same ∙ told) in
+    let one = put x first (Some live_bytes) in
+    let two = put one second (Some idle_bytes) in
+    let three = put two ready (Some []) in
+    let told_one = c.in_ok-write_file.ensures.made x start in
+    let told_two = c.in_ok-write_file-2.ensures.made one told_one in
+    let first_second : first ≢ second = λ e. logs_apart c.args.shelf (sym c.log_at-first.ensures ∙ e ∙ c.log_at-second.ensures) in
+    let first_ready : first ≢ ready = λ e. ready_apart c.args.shelf First (sym c.ready_at-ready.ensures ∙ sym e ∙ c.log_at-first.ensures) in
+    let second_ready : second ≢ ready = λ e. ready_apart c.args.shelf Second (sym c.ready_at-ready.ensures ∙ sym e ∙ c.log_at-second.ensures) in (
+      three,
+      c.in_ok-write_file-3.ensures.made two told_two,
+      record {
+        ready = subst (λ (q : List ℕ). three q ≡ Some []) c.ready_at-ready.ensures (put_here two ready (Some []));
+        first = subst (λ (q : List ℕ). three q ≡ Some live_bytes) c.log_at-first.ensures (put_there two ready (Some []) first first_ready ∙ (put_there one second (Some idle_bytes) first first_second ∙ put_here x first (Some live_bytes)));
+        second = subst (λ (q : List ℕ). three q ≡ Some idle_bytes) c.log_at-second.ensures (put_there two ready (Some []) second second_ready ∙ put_here one second (Some idle_bytes));
+      },
+    )
