@@ -3,3 +3,4 @@ pub mod State
 pub mod Look
 pub mod Whole
 pub mod Becomes
+pub mod Worked

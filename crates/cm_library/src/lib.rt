@@ -3,7 +3,9 @@
 
 mod library;
 mod row;
+mod worked;
 
 pub use cm_log::CreateFault;
 pub use library::Library;
 pub use row::{JobRow, VersionRow};
+pub use worked::three_files;

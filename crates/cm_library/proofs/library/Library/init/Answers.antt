@@ -11,9 +11,9 @@ use Rattle.cm_library.proofs.library.Library.init.Goals as goal
 made : (old new : Option Files) (result : Result (Unit {0}) CreateFault) → OnOk result (ForSome old (λ files. (now : Files) × (new ≡ Some now) × MakesLog PkgLib files now)) → OnOk result (Makes old new)
 made old new (Err fault) log = tt
 made old new (Ok done) log = (
-    λ files told. missing files (log files told).2.none,
-    λ files told. let makes = log files told in (makes.0, makes.1, opens_empty makes.0 makes.2.made),
-  )
+  λ files told. missing files (log files told).2.none,
+  λ files told. let makes = log files told in (makes.0, makes.1, opens_empty makes.0 makes.2.made),
+)
 
 pub returns-clause-made : goal.returns-clause-made
 returns-clause-made g c = made _ _ c.create.result c.create.ensures.made
