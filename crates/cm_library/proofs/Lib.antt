@@ -1,1 +1,15 @@
+pub mod Elsewhere
+pub mod Lists
+pub mod Keeping
+pub mod MapKept
+pub mod Load
+pub mod Loaded
+pub mod Members
+pub mod Opens
+pub mod Replaying
+pub mod Soundness
+pub mod Sounds
+pub mod Standing
+pub mod Steps
+pub mod TreeLaw
 pub mod Looks

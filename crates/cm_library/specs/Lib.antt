@@ -1,6 +1,13 @@
 pub mod Places
 pub mod State
 pub mod Look
-pub mod Whole
 pub mod Becomes
+pub mod Contents
+pub mod Changes
+pub mod Whole
+pub mod Faults
+pub mod Replay
+pub mod Loads
+pub mod Sound
+pub mod Open
 pub mod Worked

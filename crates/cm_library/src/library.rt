@@ -1,31 +1,13 @@
 //! The library of one server.
-ghost use Rattle.std.specs.Prelude.{◌≡◌, ◌≢◌, ◌≤◌, OnOk, IsErrOf};
-ghost use Rattle.std.specs.Option.{ForSome};
-ghost use Rattle.cm_base.specs.Causes.{Rose};
-ghost use Rattle.cm_library.specs.Look.{Missing, look};
-ghost use Rattle.cm_library.specs.Becomes.{Makes};
+use crate::kept::Contents;
+use cm_log::Log;
+use std::alloc::Global;
 
-use cm_disk::Disk;
-use cm_log::{CreateFault, Shelf, create};
-
-/// The library of one server, on its disk.
+/// The library of one server, with its disk.
 #[derive(Drop)]
-pub struct Library<D: Drop> {
-    disk: D,
-}
-
-impl<D: Disk + Drop> Library<D> {
-    /// Makes an empty library on a disk that has none.
-    ///
-    /// `AlreadyThere` comes exactly where the disk has one, readable or not; then nothing has changed. `Disk` comes only where
-    /// the disk failed.
-    pub fn init(disk: &mut D) -> Result<(), CreateFault>
-        ensures made { OnOk result (Makes (D.reads disk.old) (D.reads disk.new)) }
-        ensures there { IsErrOf result CreateFault.AlreadyThere → ForSome (D.reads disk.old) (λ files. look files ≢ Missing) }
-        ensures same { IsErrOf result CreateFault.AlreadyThere → D.reads disk.new ≡ D.reads disk.old }
-        ensures later { D.faults disk.old ≤ D.faults disk.new }
-        ensures cause { IsErrOf result CreateFault.Disk → Rose (D.faults disk.old) (D.faults disk.new) }
-    {
-        create(disk, Shelf::PkgLib)
-    }
+pub struct Library<D> {
+    pub(crate) alloc: Global,
+    pub(crate) disk: D,
+    pub(crate) log: Log,
+    pub(crate) contents: Contents,
 }

@@ -1,0 +1,15 @@
+use Rattle.std.proofs.Common.{◌≡◌, ◌≤◌, take}
+use Rattle.std.specs.Option.{ForSome}
+use Rattle.std.specs.List.{AllByRecursion}
+use Rattle.cm_disk.specs.Disk.{LeavesNoMore}
+use Rattle.cm_library.specs.Loads.{IsKept, StaysKept}
+use Rattle.cm_library.proofs.loading.load_versions.Given as goal
+
+abbrev pub invariant-loop-row : goal.invariant-loop-row
+invariant-loop-row g l = record {
+  kept : ForSome (g.D.Disk.reads l.fn.disk) (λ files. AllByRecursion (IsKept files l.manifests) (take l.row-index l.rows));
+  stays : ForSome (g.D.Disk.reads l.fn.disk) (λ files. StaysKept files l.fn.manifests l.manifests);
+  same : g.D.Disk.reads l.disk ≡ g.D.Disk.reads l.fn.disk;
+  stop : LeavesNoMore (g.D.Disk.may_leave l.fn.disk) (g.D.Disk.may_leave l.disk);
+  later : g.D.Disk.faults l.fn.disk ≤ g.D.Disk.faults l.disk;
+}

@@ -1,0 +1,140 @@
+//! What is kept in memory changes, and tells what it is.
+ghost use Rattle.std.specs.Prelude.{◌≡◌, ◌+◌, ◌^◌, ◌<◌, ◌≤◌, None, List, ℕ, length, IfOk, OnErr, OnOk, vec_len, vec_capacity};
+ghost use Rattle.std.specs.Result.{result_err};
+ghost use Rattle.cm_pkglib.specs.declared.change.Change.TheVariants.{Done as done_change};
+ghost use Rattle.cm_pkglib.specs.Rows.{last_of, fault_of, opened_fault};
+ghost use Rattle.cm_library.specs.State.{Begun, Finished, changed, held_of, rows_of, version_rows, job_rows, count_in, entries_in};
+ghost use Rattle.cm_library.specs.Contents.{state_with, manifest_in_map, PutsManifest};
+
+use crate::kept::{Contents, Manifests};
+use crate::row::{JobRow, VersionRow};
+use crate::told::{jobs_told, manifest_bytes, put_finished, take_told, versions_told};
+use cm_base::{JobId, Memory, PackageId, Version};
+use cm_pkglib::{Change, PkgRow, RowFault, Rows};
+use cm_tree::Manifest;
+use std::alloc::Global;
+
+// Room for one more told job, and for the end of each.
+fn make_room(versions: &mut Vec<VersionRow>, jobs: &mut Vec<JobRow>) -> Result<(), Memory>
+    ensures versions { versions.new.items ≡ versions.old.items }
+    ensures jobs { jobs.new.items ≡ jobs.old.items }
+    ensures versions_capacity { vec_capacity versions.old ≤ vec_capacity versions.new }
+    ensures versions_room { OnOk result (length versions.new.items + length jobs.new.items + 1 ≤ vec_capacity versions.new) }
+    ensures jobs_room { OnOk result (vec_len jobs.new < vec_capacity jobs.new) }
+{
+    jobs.reserve(1)?;
+    let unfinished = jobs.len();
+    versions.reserve(unfinished + 1)?;
+    Ok(())
+}
+
+// A manifest more is kept.
+fn keep_manifest(manifests: &mut Manifests, row: &PkgRow, manifest: Manifest) -> Result<(), Memory>
+    ensures put { OnOk result (PutsManifest manifests.old manifests.new row.now.package row.now.version manifest) }
+    ensures same { OnErr result ((id : List ℕ) (version : ℕ) → manifest_in_map manifests.new id version ≡ manifest_in_map manifests.old id version) }
+{
+    match manifests.insert((row.package, row.version), manifest) {
+        Ok(_) => Ok(()),
+        Err(_) => Err(Memory),
+    }
+}
+
+impl Contents {
+    /// What rows and their manifests make.
+    pub(crate) fn of(alloc: Global, rows: Rows, manifests: Manifests) -> Result<Contents, Memory>
+        ensures { IfOk result (λ contents. contents ≡ state_with (manifest_in_map manifests) rows) }
+    {
+        let versions = versions_told(alloc, rows.versions(), &manifests, rows.jobs().len())?;
+        let jobs = jobs_told(alloc, rows.jobs(), &manifests)?;
+        Ok(Contents {
+            rows,
+            manifests,
+            versions,
+            jobs,
+        })
+    }
+
+    pub(crate) fn versions(&self) -> &[VersionRow]
+        ensures { result.now ≡ version_rows self.now }
+    {
+        &self.versions
+    }
+
+    pub(crate) fn jobs(&self) -> &[JobRow]
+        ensures { result.now ≡ job_rows self.now }
+    {
+        &self.jobs
+    }
+
+    pub(crate) fn last(&self, package: PackageId) -> Option<Version>
+        ensures { result ≡ last_of «package» self.now.lasts }
+    {
+        self.rows.last(package)
+    }
+
+    pub(crate) fn next(&self) -> JobId
+        ensures { result ≡ self.now.next }
+    {
+        self.rows.next()
+    }
+
+    pub(crate) fn count(&self) -> u32
+        ensures { result ≡ count_in self.now }
+    {
+        (self.rows.versions().len() + self.rows.jobs().len()) as u32
+    }
+
+    pub(crate) fn entries(&self) -> u32
+        ensures { result ≡ entries_in self.now }
+    {
+        self.rows.entries()
+    }
+
+    /// Why a change is refused.
+    pub(crate) fn check(&self, change: &Change) -> Result<(), RowFault>
+        ensures { result_err result ≡ fault_of (rows_of self.now) change.now }
+    {
+        self.rows.check(change)
+    }
+
+    /// A job begins for a version with a manifest. After want of memory nothing has changed.
+    pub(crate) fn begin(&mut self, row: PkgRow, manifest: Manifest) -> Result<(), Memory>
+        requires free { opened_fault (rows_of self.old) self.old.next row.package row.version row.entries ≡ None }
+        requires row { row ≡ (held_of row.package row.version manifest).row }
+        ensures ok { OnOk result (self.new ≡ changed (Begun self.old.next row.package row.version manifest) self.old) }
+        ensures err { OnErr result (self.new ≡ self.old) }
+    {
+        make_room(&mut self.versions, &mut self.jobs)?;
+        let job = self.rows.next();
+        let told = JobRow {
+            job,
+            package: row.package,
+            version: row.version,
+            entries: row.entries,
+            bytes: manifest_bytes(&manifest),
+            hash: row.hash,
+        };
+        let change = Change::Opened {
+            job,
+            package: row.package,
+            version: row.version,
+            entries: row.entries,
+            size: row.size,
+            hash: row.hash,
+        };
+        keep_manifest(&mut self.manifests, &row, manifest)?;
+        self.rows.apply(&change)?;
+        let _pushed = self.jobs.push(told);
+        Ok(())
+    }
+
+    /// The version of an unfinished job is there.
+    pub(crate) fn finish(&mut self, job: JobId)
+        requires { fault_of (rows_of self.old) (done_change job) ≡ None }
+        ensures { self.new ≡ changed (Finished job) self.old }
+    {
+        let _applied = self.rows.apply(&Change::Done { job });
+        let told = take_told(&mut self.jobs, job);
+        put_finished(&mut self.versions, told);
+    }
+}

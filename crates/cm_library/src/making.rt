@@ -1,0 +1,26 @@
+//! A library is made.
+ghost use Rattle.std.specs.Prelude.{◌≡◌, ◌≢◌, ◌≤◌, OnOk, IsErrOf};
+ghost use Rattle.std.specs.Option.{ForSome};
+ghost use Rattle.cm_base.specs.Causes.{Rose};
+ghost use Rattle.cm_library.specs.Look.{Missing, look};
+ghost use Rattle.cm_library.specs.Becomes.{Makes};
+
+use crate::library::Library;
+use cm_disk::Disk;
+use cm_log::{CreateFault, Shelf, create};
+
+impl<D: Disk> Library<D> {
+    /// Makes an empty library on a disk that has none.
+    ///
+    /// `AlreadyThere` comes exactly where the disk has one, readable or not; then nothing has changed. `Disk` comes only where
+    /// the disk failed.
+    pub fn init(disk: &mut D) -> Result<(), CreateFault>
+        ensures made { OnOk result (Makes (D.reads disk.old) (D.reads disk.new)) }
+        ensures there { IsErrOf result CreateFault.AlreadyThere → ForSome (D.reads disk.old) (λ files. look files ≢ Missing) }
+        ensures same { IsErrOf result CreateFault.AlreadyThere → D.reads disk.new ≡ D.reads disk.old }
+        ensures later { D.faults disk.old ≤ D.faults disk.new }
+        ensures cause { IsErrOf result CreateFault.Disk → Rose (D.faults disk.old) (D.faults disk.new) }
+    {
+        create(disk, Shelf::PkgLib)
+    }
+}

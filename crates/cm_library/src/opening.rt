@@ -1,0 +1,90 @@
+//! A library is opened.
+ghost use Rattle.std.specs.Prelude.{◌≡◌, ◌≤◌, ℕ, List, IfOk, IfErr, IsErrOf};
+ghost use Rattle.std.specs.Option.{ForSome};
+ghost use Rattle.cm_base.specs.Causes.{Rose};
+ghost use Rattle.cm_library.specs.Look.{Missing, Unreadable, look, has_room};
+ghost use Rattle.cm_library.specs.Open.{disk_of, StandsIn, IsOpen, IsReady};
+
+use crate::fault::OpenFault;
+use crate::kept::Contents;
+use crate::library::Library;
+use crate::loading::load_all;
+use crate::records::{read_rows, unreadable};
+use cm_disk::Disk;
+use cm_log::{Log, LogFault, LogReader, Shelf};
+use cm_pkglib::Rows;
+use std::alloc::Global;
+
+/// The greatest place of a closed gate of a log.
+const MOST: u64 = (1 << 40) - 1;
+
+// Whether the closed gate leaves the room that the ends of versions and jobs may want.
+fn leaves_room(end: u64, rows: &Rows) -> bool
+    ensures { result ≡ has_room end rows.now }
+{
+    let versions = rows.versions().len() as u64;
+    let jobs = rows.jobs().len() as u64;
+    end <= MOST - (18 * versions + 36 * jobs)
+}
+
+// The log of a library's disk and what is kept of it.
+fn read_library<D: Disk>(alloc: Global, disk: &mut D) -> Result<(Log, Contents), OpenFault>
+    ensures ready { IfOk result (λ found. IsReady found.0 found.1) }
+    ensures stands { IfOk result (λ found. ForSome (D.reads disk.new) (λ files. StandsIn files (D.may_leave disk.new) found.0 found.1)) }
+    ensures missing { IsErrOf result OpenFault.NoLibrary → ForSome (D.reads disk.old) (λ files. look files ≡ Missing) }
+    ensures unreadable { (place : List ℕ) (at : ℕ) → IsErrOf result (OpenFault.Unreadable place at) → ForSome (D.reads disk.old) (λ files. look files ≡ Unreadable place at) }
+    ensures same { D.reads disk.new ≡ D.reads disk.old }
+    ensures later { D.faults disk.old ≤ D.faults disk.new }
+    ensures cause { IsErrOf result OpenFault.Disk → Rose (D.faults disk.old) (D.faults disk.new) }
+{
+    let mut reader = match LogReader::open(disk, Shelf::PkgLib) {
+        Ok(reader) => reader,
+        Err(LogFault::Disk) => return Err(OpenFault::Disk),
+        Err(LogFault::NoLibrary) => return Err(OpenFault::NoLibrary),
+        Err(LogFault::Unreadable { place: _, at: _ }) => return Err(unreadable()),
+    };
+    let rows = match read_rows(alloc, disk, &mut reader) {
+        Ok(rows) => rows,
+        Err(fault) => return Err(fault),
+    };
+    let log = reader.done();
+    if !leaves_room(log.end(), &rows) {
+        return Err(unreadable());
+    }
+    let manifests = match load_all(alloc, disk, &rows) {
+        Ok(Some(manifests)) => manifests,
+        Ok(None) => return Err(unreadable()),
+        Err(fault) => return Err(fault),
+    };
+    match Contents::of(alloc, rows, manifests) {
+        Ok(contents) => Ok((log, contents)),
+        Err(_) => Err(OpenFault::Memory),
+    }
+}
+
+impl<D: Disk> Library<D> {
+    /// Opens the library of a disk: reads the records of its log one by one, and the manifests that they name. The disk is
+    /// given back with a fault. `Disk` comes only where the disk failed.
+    pub fn open(alloc: Global, disk: D) -> Result<Library<D>, (D, OpenFault)>
+        ensures open { IfOk result (λ library. IsOpen D.reads D.may_leave library) }
+        ensures missing { IfErr result (λ refused. refused.1 ≡ OpenFault.NoLibrary → ForSome (D.reads disk) (λ files. look files ≡ Missing)) }
+        ensures unreadable { IfErr result (λ refused. (place : List ℕ) (at : ℕ) → refused.1 ≡ OpenFault.Unreadable place at → ForSome (D.reads disk) (λ files. look files ≡ Unreadable place at)) }
+        ensures cause { IfErr result (λ refused. refused.1 ≡ OpenFault.Disk → Rose (D.faults disk) (D.faults refused.0)) }
+        // The disk reads as before, and is given back after a fault.
+        ensures same { IfOk result (λ library. D.reads (disk_of library) ≡ D.reads disk) }
+        ensures given_back { IfErr result (λ refused. D.reads refused.0 ≡ D.reads disk) }
+        ensures later { IfOk result (λ library. D.faults disk ≤ D.faults (disk_of library)) }
+        ensures later_back { IfErr result (λ refused. D.faults disk ≤ D.faults refused.0) }
+    {
+        let mut disk = disk;
+        match read_library(alloc, &mut disk) {
+            Ok((log, contents)) => Ok(Library {
+                alloc,
+                disk,
+                log,
+                contents,
+            }),
+            Err(fault) => Err((disk, fault)),
+        }
+    }
+}

@@ -1,0 +1,148 @@
+//! The records of a library's log are read.
+ghost use Rattle.std.specs.Prelude.{◌≡◌, ◌⊎◌, ◌≤◌, ℕ, List, true, false, Some, None, Ok, IfOk, IfErr, OnOk, IsErrOf};
+ghost use Rattle.std.specs.Option.{ForSome};
+ghost use Rattle.cm_base.specs.Causes.{Rose};
+ghost use Rattle.cm_disk.specs.Disk.{File, Files, LeavesNoMore};
+ghost use Rattle.cm_log.specs.declared.shelf.Shelf.TheVariants.{PkgLib};
+ghost use Rattle.cm_log.specs.declared.shelf.Side.TheVariants.{First};
+ghost use Rattle.cm_log.specs.Shelves.{log_place};
+ghost use Rattle.cm_log.specs.Settled.{reader_shelf, has_ended, rest_of, IsReading};
+ghost use Rattle.cm_pkglib.specs.Rows.{no_rows, fault_of, after};
+ghost use Rattle.cm_library.specs.Sound.{AreSound};
+ghost use Rattle.cm_library.specs.Look.{known};
+ghost use Rattle.cm_library.specs.Replay.{rows_after_body, state_from};
+
+use crate::fault::OpenFault;
+use cm_base::Place;
+use cm_disk::Disk;
+use cm_log::{LogFault, LogReader};
+use cm_pkglib::{Change, Rows};
+use std::alloc::Global;
+
+// Whether a library's log has records of this kind.
+fn is_known(change: &Change) -> bool
+    ensures yes { result ≡ true → known change.now ≡ Some change.now }
+    ensures no { result ≡ false → known change.now ≡ None }
+{
+    match change {
+        Change::Opened { .. } => true,
+        Change::Done { .. } => true,
+        Change::Dropped { .. } => false,
+        Change::Removed { .. } => false,
+    }
+}
+
+// Makes a change that the rows take.
+fn apply_change(rows: &mut Rows, change: &Change) -> Result<(), OpenFault>
+    requires sound { AreSound rows.old }
+    requires free { fault_of rows.old change.now ≡ None }
+    ensures sound { AreSound rows.new }
+    ensures ok { OnOk result (rows.new ≡ after change.now rows.old) }
+    ensures fault { IfErr result (λ fault. fault ≡ OpenFault.Memory) }
+{
+    // Its clause says that the rows are valid.
+    let _rising = rows.versions();
+    match rows.apply(change) {
+        Ok(()) => Ok(()),
+        Err(_) => Err(OpenFault::Memory),
+    }
+}
+
+// Makes the change that a record says. False where it says none, or the rows refuse it.
+fn take_body(rows: &mut Rows, body: &[u8]) -> Result<bool, OpenFault>
+    requires { AreSound rows.old }
+    ensures sound { AreSound rows.new }
+    ensures taken { result ≡ Ok true → rows_after_body body.now rows.old ≡ Some rows.new }
+    ensures refused { result ≡ Ok false → rows_after_body body.now rows.old ≡ None }
+    ensures fault { IfErr result (λ fault. fault ≡ OpenFault.Memory) }
+{
+    let change = match Change::decode(body) {
+        Some(change) => change,
+        None => return Ok(false),
+    };
+    if !is_known(&change) {
+        return Ok(false);
+    }
+    match rows.check(&change) {
+        Ok(()) => {}
+        Err(_) => return Ok(false),
+    }
+    apply_change(rows, &change)?;
+    Ok(true)
+}
+
+/// What stands for all that is unreadable.
+pub(crate) fn unreadable() -> OpenFault
+    ensures { result ≡ OpenFault.Unreadable (log_place PkgLib First) 0 }
+{
+    match Place::read(b"PkgLib/log.0") {
+        Some(place) => OpenFault::Unreadable { place, at: 0 },
+        None => unreachable!(),
+    }
+}
+
+// Takes the next record into the rows. False at the closed gate.
+fn take_record<D: Disk>(
+    disk: &mut D,
+    reader: &mut LogReader,
+    buf: &mut [u8; 65536],
+    rows: &mut Rows,
+) -> Result<bool, OpenFault>
+    requires reading { ForSome (D.reads disk.old) (λ files. IsReading files (D.may_leave disk.old) reader.old) }
+    requires sound { AreSound rows.old }
+    ensures reading { ForSome (D.reads disk.new) (λ files. IsReading files (D.may_leave disk.new) reader.new) }
+    ensures sound { AreSound rows.new }
+    ensures goes_on { OnOk result (ForSome (D.reads disk.old) (λ files. state_from files (Some rows.old) (rest_of files reader.old) ≡ state_from files (Some rows.new) (rest_of files reader.new))) }
+    ensures ended { result ≡ Ok false → has_ended reader.new ≡ true }
+    ensures unreadable { (place : List ℕ) (at : ℕ) → IsErrOf result (OpenFault.Unreadable place at) → (place ≡ log_place PkgLib First) × (at ≡ 0) × ForSome (D.reads disk.old) (λ files. state_from files (Some rows.old) (rest_of files reader.old) ≡ None) }
+    ensures library { IsErrOf result OpenFault.NoLibrary → ⊥ }
+    ensures shelf { reader_shelf reader.new ≡ reader_shelf reader.old }
+    ensures same { D.reads disk.new ≡ D.reads disk.old }
+    ensures stop { LeavesNoMore (D.may_leave disk.old) (D.may_leave disk.new) }
+    ensures later { D.faults disk.old ≤ D.faults disk.new }
+    ensures cause { IsErrOf result OpenFault.Disk → Rose (D.faults disk.old) (D.faults disk.new) }
+{
+    match reader.next(disk, buf) {
+        Ok(Some(count)) => match take_body(rows, &buf[..count]) {
+            Ok(true) => Ok(true),
+            Ok(false) => Err(unreadable()),
+            Err(_) => Err(OpenFault::Memory),
+        },
+        Ok(None) => Ok(false),
+        Err(LogFault::Disk) => Err(OpenFault::Disk),
+        Err(LogFault::Unreadable { place: _, at: _ }) => Err(unreadable()),
+        Err(LogFault::NoLibrary) => unreachable!(),
+    }
+}
+
+/// The rows that all records make. `Unreadable` where a record is cut short, off the grammar, or refused by the rows.
+pub(crate) fn read_rows<D: Disk>(
+    alloc: Global,
+    disk: &mut D,
+    reader: &mut LogReader,
+) -> Result<Rows, OpenFault>
+    requires { ForSome (D.reads disk.old) (λ files. IsReading files (D.may_leave disk.old) reader.old) }
+    ensures reading { ForSome (D.reads disk.new) (λ files. IsReading files (D.may_leave disk.new) reader.new) }
+    ensures sound { IfOk result (λ rows. AreSound rows) }
+    ensures rows { IfOk result (λ rows. ForSome (D.reads disk.old) (λ files. state_from files (Some no_rows) (rest_of files reader.old) ≡ state_from files (Some rows) (rest_of files reader.new))) }
+    ensures ended { OnOk result (has_ended reader.new ≡ true) }
+    ensures unreadable { (place : List ℕ) (at : ℕ) → IsErrOf result (OpenFault.Unreadable place at) → (place ≡ log_place PkgLib First) × (at ≡ 0) × ForSome (D.reads disk.old) (λ files. state_from files (Some no_rows) (rest_of files reader.old) ≡ None) }
+    ensures library { IsErrOf result OpenFault.NoLibrary → ⊥ }
+    ensures shelf { reader_shelf reader.new ≡ reader_shelf reader.old }
+    ensures same { D.reads disk.new ≡ D.reads disk.old }
+    ensures stop { LeavesNoMore (D.may_leave disk.old) (D.may_leave disk.new) }
+    ensures later { D.faults disk.old ≤ D.faults disk.new }
+    ensures cause { IsErrOf result OpenFault.Disk → Rose (D.faults disk.old) (D.faults disk.new) }
+{
+    let mut rows = Rows::new(alloc);
+    let mut buf = [0u8; 65536];
+    for _record in 0..u64::MAX {
+        match take_record(disk, reader, &mut buf, &mut rows) {
+            Ok(true) => {}
+            Ok(false) => return Ok(rows),
+            Err(fault) => return Err(fault),
+        }
+    }
+    // A log has fewer records than that.
+    Err(OpenFault::Memory)
+}
