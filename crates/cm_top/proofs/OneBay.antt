@@ -6,7 +6,7 @@ use Rattle.cm_base.specs.Causes.{Rose}
 use Rattle.cm_disk.specs.Disk.{Files}
 use Rattle.cm_library.specs.Look.{Library}
 use Rattle.cm_tree.specs.Trees.{File}
-use Rattle.cm_top.specs.Bays.{Seen, seen, seen_bay, names_of, reads_of, faults_of, SameBut, site, IsSiteAlone}
+use Rattle.cm_top.specs.Bays.{Seen, seen, seen_bay, seen_disk, names_of, reads_of, faults_of, SameBut, site, IsSiteAlone}
 use Rattle.cm_top.specs.Machine.{Step}
 use Rattle.cm_top.specs.Runs.{Sourced, Steps, EndsOn, EndsBy}
 use Rattle.cm_top.specs.declared.reply.Reply.{Reply}
@@ -86,3 +86,13 @@ module _ {D : Type 0} (reads : D → Option Files) (faults : D → ℕ) where
 
 pub same_all : (name : List ℕ) (bays : List Seen) → SameBut name bays bays
 same_all name bays = record { names = refl; others = λ q ne. refl }
+
+-- a bay that was taken out, worked on, and put back under its name
+pub ends_taken : {D : Type 0} (reads : D → Option Files) (faults : D → ℕ) (step : List File → Library → Step) (from to : Sourced) (olds news : List (Bay D)) (name : List ℕ) (old new : D) (reply : Reply) → name ≡ site
+    → olds ≡ record { name = name; disk = old } ∷ [] → news ≡ record { name = name; disk = new } ∷ [] → EndsOn step from to (seen_disk reads faults old) (seen_disk reads faults new) reply
+    → EndsBy step from to (seen reads faults olds) (seen reads faults news) reply
+ends_taken {D} reads faults step from to olds news name old new reply named before after ends =
+    subst (λ (bays : List (Bay D)). EndsBy step from to (seen reads faults bays) (seen reads faults news) reply) (sym before)
+    (subst (λ (bays : List (Bay D)). EndsBy step from to (seen reads faults (record { name = name; disk = old } ∷ [])) (seen reads faults bays) reply) (sym after)
+    (subst (λ (q : List ℕ). EndsBy step from to (record { name = q; reads = reads old; faults = faults old } ∷ []) (record { name = q; reads = reads new; faults = faults new } ∷ []) reply) (sym named)
+    (ends_alone step from to (seen_disk reads faults old) (seen_disk reads faults new) reply refl refl ends)))

@@ -4,6 +4,10 @@ use Rattle.std.specs.Str.{bytes_eq}
 use Rattle.cm_disk.specs.Disk.{Files}
 use Rattle.cm_top.specs.declared.bay.Bay.{Bay}
 
+-- the site's bay
+abbrev pub site : List ℕ
+site = codes "site"
+
 -- a bay as clauses see it: its name, what it reads as where it tells that, and how often it failed
 pub record Seen : Type 0 where
   pub name : List ℕ
@@ -12,6 +16,10 @@ pub record Seen : Type 0 where
 
 abbrev pub seen_bay : {D : Type 0} → (D → Option Files) → (D → ℕ) → Bay D → Seen
 seen_bay reads faults bay = record { name = bay.name; reads = reads bay.disk; faults = faults bay.disk }
+
+-- a disk as the site's bay
+abbrev pub seen_disk : {D : Type 0} → (D → Option Files) → (D → ℕ) → D → Seen
+seen_disk reads faults disk = record { name = site; reads = reads disk; faults = faults disk }
 
 -- the bays as they read
 abbrev pub seen : {D : Type 0} → (D → Option Files) → (D → ℕ) → List (Bay D) → List Seen
@@ -34,10 +42,6 @@ faults_of name (bay ∷ bays) = if bytes_eq name bay.name then bay.faults else f
 pub record SameBut (name : List ℕ) (old new : List Seen) : Type 0 where
   pub names : names_of new ≡ names_of old
   pub others : (q : List ℕ) → q ≢ name → reads_of q new ≡ reads_of q old
-
--- the site's bay
-abbrev pub site : List ℕ
-site = codes "site"
 
 -- there is one bay, `site`
 abbrev pub IsSiteAlone : List Seen → Type 0

@@ -8,7 +8,7 @@ use Rattle.cm_library.specs.Look.{Library}
 use Rattle.cm_tree.specs.Folders.{Shown, Agrees}
 use Rattle.cm_tree.specs.Trees.{File}
 use Rattle.cm_top.specs.Bays.{Seen, site, reads_of, faults_of, SameBut}
-use Rattle.cm_top.specs.Machine.{Step, step_init}
+use Rattle.cm_top.specs.Machine.{Step, step_init, step_list}
 use Rattle.cm_top.specs.Texts.{text, status}
 use Rattle.cm_top.specs.Words.{read_line}
 use Rattle.cm_top.specs.declared.fault.WordsFault.{WordsFault}
@@ -17,7 +17,7 @@ use Rattle.cm_top.specs.declared.reply.Reply.TheVariants.{Disk, Memory, Source}
 use Rattle.cm_top.specs.declared.reply.Ended.{Ended}
 use Rattle.cm_top.specs.declared.reply.Ended.TheVariants.{Usage, Replied}
 use Rattle.cm_top.specs.declared.line.Line.{Line}
-use Rattle.cm_top.specs.declared.line.Line.TheVariants.{Init}
+use Rattle.cm_top.specs.declared.line.Line.TheVariants.{Init, List as ListBay}
 
 -- a sink: what it got, where it tells that, and how often it failed
 pub record Sunk : Type 0 where
@@ -54,6 +54,7 @@ Prints ended old new result = PrintsAll ended old new result ⊎ PrintsFront end
 -- the machine's step for a line
 abbrev pub step : Line → List File → Library → Step
 step (Init names) files library = step_init names library
+step (ListBay bay) files library = step_list bay library
 
 -- The site's bay is a library, and the folder has files, of which the machine's step gives this reply and the library that the bay is
 -- now. A disk or a folder that tells its content pins that library and those files.

@@ -6,7 +6,7 @@ use Rattle.cm_base.specs.Names.{name_of, is_package_id, text_if}
 use Rattle.cm_top.specs.declared.fault.WordsFault.{WordsFault}
 use Rattle.cm_top.specs.declared.fault.WordsFault.TheVariants.{NoCommand, UnknownCommand, BadValue, MissingWord, ExtraWord}
 use Rattle.cm_top.specs.declared.line.Line.{Line}
-use Rattle.cm_top.specs.declared.line.Line.TheVariants.{Init}
+use Rattle.cm_top.specs.declared.line.Line.TheVariants.{Init, List as ListBay}
 
 -- the bytes of each word
 abbrev pub texts : {A : Type 0} → List (String A) → List (List ℕ)
@@ -61,6 +61,10 @@ abbrev pub init_of : Result (List (List ℕ)) WordsFault → Result Line WordsFa
 init_of (Ok names) = Ok (Init names)
 init_of (Err fault) = Err fault
 
+abbrev pub list_of : Result (List ℕ) WordsFault → Result Line WordsFault
+list_of (Ok bay) = Ok (ListBay bay)
+list_of (Err fault) = Err fault
+
 -- the first value, of a form
 abbrev pub one_formed : (List ℕ → Option (List ℕ)) → Result (List ℕ) WordsFault → Result (List ℕ) WordsFault
 one_formed form (Ok value) = formed (form value) 1
@@ -76,15 +80,16 @@ package_of text = text_if (is_package_id text) text
 
 -- the words behind `add`: a package
 abbrev pub read_add : List (List ℕ) → Result (List ℕ) WordsFault
-read_add words = if has_option words then Err ExtraWord else one_formed package_of (only_value (values_of words))
+read_add words = if has_option words then Err ExtraWord else (one_formed package_of (only_value (values_of words)))
 
 -- the words behind `list`: a bay
-abbrev pub read_list : List (List ℕ) → Result (List ℕ) WordsFault
-read_list words = if has_option words then Err ExtraWord else one_formed name_of (only_value (values_of words))
+abbrev pub read_list : List (List ℕ) → Result Line WordsFault
+read_list words = if has_option words then Err ExtraWord else list_of (one_formed name_of (only_value (values_of words)))
 
 -- the line that the words say, or why they are refused
 abbrev pub read_line : List (List ℕ) → Result Line WordsFault
 read_line [] = Err NoCommand
 read_line (word ∷ words) =
     if bytes_eq word (codes "init") then read_init words
-    else Err UnknownCommand
+    else (if bytes_eq word (codes "list") then read_list words
+    else Err UnknownCommand)

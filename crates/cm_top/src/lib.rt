@@ -5,6 +5,8 @@ mod bay;
 mod fault;
 mod init;
 mod line;
+mod listing;
+mod opening;
 mod reply;
 mod running;
 mod say;

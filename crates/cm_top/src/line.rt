@@ -6,4 +6,6 @@ use cm_base::{List, ServerName};
 pub enum Line {
     /// Makes the libraries of these bays, or of all where none is named.
     Init { names: List<ServerName> },
+    /// Lists the versions and unfinished jobs of a bay.
+    List { bay: ServerName },
 }

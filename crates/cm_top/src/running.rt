@@ -1,35 +1,53 @@
 //! One command.
 ghost use Rattle.std.specs.Prelude.{◌≡◌, ◌<◌, ◌^◌, List, ℕ};
-ghost use Rattle.cm_top.specs.Bays.{seen, IsSiteAlone};
+ghost use Rattle.cm_top.specs.Bays.{seen, site, SameBut, IsSiteAlone};
 ghost use Rattle.cm_top.specs.Causes.{HasCauses};
-ghost use Rattle.cm_top.specs.Runs.{RunMeets, sunk, sourced};
+ghost use Rattle.cm_top.specs.Runs.{Ends, RunMeets, sunk, sourced};
 ghost use Rattle.cm_top.specs.Words.{texts};
 
 use crate::init::init;
+use crate::listing::list;
 use crate::show::show;
-use crate::words::read_names;
-use crate::{Bay, Ended};
+use crate::{Bay, Ended, Line, Reply, read_words};
 use cm_base::{Sink, Source};
 use cm_disk::Disk;
 use cm_tree::Folder;
 use std::alloc::Global;
 
+// Does what a line says: one arm for each command.
+fn answer<F: Folder, D: Disk + Drop>(
+    alloc: Global,
+    line: Line,
+    _folder: &mut F,
+    bays: &mut Vec<Bay<D>>,
+) -> Reply
+    requires { IsSiteAlone (seen D.reads D.faults bays.old.items) }
+    ensures ends { Ends line (sourced F.shows F.faults _folder.old) (sourced F.shows F.faults _folder.new)
+        (seen D.reads D.faults bays.old.items) (seen D.reads D.faults bays.new.items) result }
+    ensures bays { SameBut site (seen D.reads D.faults bays.old.items) (seen D.reads D.faults bays.new.items) }
+{
+    match line {
+        Line::Init { names } => init(names.items(), bays),
+        Line::List { bay } => list(alloc, bay, bays),
+    }
+}
+
 // Reads the words, does what they say, and prints the end.
 fn run_words<F: Folder, K: Sink, D: Disk + Drop>(
     alloc: Global,
     words: &[String],
-    _folder: &mut F,
+    folder: &mut F,
     out: &mut K,
     bays: &mut Vec<Bay<D>>,
 ) -> u8
     requires { IsSiteAlone (seen D.reads D.faults bays.old.items) }
-    ensures { RunMeets (texts words.now) (sourced F.shows F.faults _folder.old) (sourced F.shows F.faults _folder.new)
+    ensures { RunMeets (texts words.now) (sourced F.shows F.faults folder.old) (sourced F.shows F.faults folder.new)
         (seen D.reads D.faults bays.old.items) (seen D.reads D.faults bays.new.items)
         (sunk K.got K.faults out.old) (sunk K.got K.faults out.new) result }
 {
-    match read_names(alloc, words) {
-        Ok(names) => {
-            let reply = init(&names, bays);
+    match read_words(alloc, words) {
+        Ok(line) => {
+            let reply = answer(alloc, line, folder, bays);
             show(alloc, out, &Ended::Replied { reply })
         }
         Err(fault) => show(alloc, out, &Ended::Usage { fault }),

@@ -2,3 +2,4 @@
 mod base;
 mod fakes;
 mod init;
+mod list;

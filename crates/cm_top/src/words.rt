@@ -1,8 +1,7 @@
 //! The words of the command line are read.
 ghost use Rattle.std.specs.Prelude.{◌≡◌, ◌≢◌, ◌+◌, ◌<◌, ◌^◌, length, IfOk, IfErr, Ok, Err};
-ghost use Rattle.cm_top.specs.Words.{texts, is_option, is_end, has_option, values_of, names_from, read_init, read_line};
+ghost use Rattle.cm_top.specs.Words.{texts, is_option, is_end, has_option, values_of, only_value, names_from, read_init, read_list, read_line};
 ghost use Rattle.cm_top.specs.declared.fault.WordsFault.TheVariants.{Memory};
-ghost use Rattle.cm_top.specs.declared.line.Line.TheVariants.{Init};
 
 use crate::{Line, WordsFault};
 use cm_base::{List, ServerName};
@@ -59,31 +58,56 @@ fn names(alloc: Global, words: &[String]) -> Result<Vec<ServerName>, WordsFault>
     Ok(names)
 }
 
-fn init_names(alloc: Global, words: &[String]) -> Result<Vec<ServerName>, WordsFault>
-    ensures ok { IfOk result (λ names. read_init (texts words.now) ≡ Ok (Line.Init names.items)) }
+fn only_word(words: &[String]) -> Result<&[u8], WordsFault>
+    ensures ok { IfOk result (λ value. only_value (values_of (texts words.now)) ≡ Ok value.now) }
+    ensures err { IfErr result (λ fault. only_value (values_of (texts words.now)) ≡ Err fault) }
+{
+    let mut found: Option<&[u8]> = None;
+    let mut ended = false;
+    for word in words {
+        if !ended && ends_options(word.as_bytes()) {
+            ended = true;
+        } else {
+            if found.is_some() {
+                return Err(WordsFault::ExtraWord);
+            }
+            found = Some(word.as_bytes());
+        }
+    }
+    match found {
+        Some(value) => Ok(value),
+        None => Err(WordsFault::MissingWord { value: 1 }),
+    }
+}
+
+fn init_line(alloc: Global, words: &[String]) -> Result<Line, WordsFault>
+    ensures ok { IfOk result (λ line. read_init (texts words.now) ≡ Ok line) }
     ensures err { IfErr result (λ fault. fault ≢ WordsFault.Memory → read_init (texts words.now) ≡ Err fault) }
 {
     if has_options(words) {
         return Err(WordsFault::ExtraWord);
     }
     match names(alloc, words) {
-        Ok(names) => Ok(names),
+        Ok(names) => Ok(Line::Init {
+            names: List::of(names),
+        }),
         Err(fault) => Err(fault),
     }
 }
 
-// The names behind `init`, the one command there is.
-pub(crate) fn read_names(alloc: Global, words: &[String]) -> Result<Vec<ServerName>, WordsFault>
-    ensures ok { IfOk result (λ names. read_line (texts words.now) ≡ Ok (Line.Init names.items)) }
-    ensures err { IfErr result (λ fault. fault ≢ WordsFault.Memory → read_line (texts words.now) ≡ Err fault) }
+fn list_line(words: &[String]) -> Result<Line, WordsFault>
+    ensures ok { IfOk result (λ line. read_list (texts words.now) ≡ Ok line) }
+    ensures err { IfErr result (λ fault. read_list (texts words.now) ≡ Err fault) }
 {
-    if words.is_empty() {
-        return Err(WordsFault::NoCommand);
+    if has_options(words) {
+        return Err(WordsFault::ExtraWord);
     }
-    if words[0].as_str() == "init" {
-        init_names(alloc, &words[1..])
-    } else {
-        Err(WordsFault::UnknownCommand)
+    match only_word(words) {
+        Ok(value) => match ServerName::read(value) {
+            Some(bay) => Ok(Line::List { bay }),
+            None => Err(WordsFault::BadValue { value: 1 }),
+        },
+        Err(fault) => Err(fault),
     }
 }
 
@@ -92,10 +116,13 @@ pub fn read_words(alloc: Global, words: &[String]) -> Result<Line, WordsFault>
     ensures ok { IfOk result (λ line. read_line (texts words.now) ≡ Ok line) }
     ensures err { IfErr result (λ fault. fault ≢ WordsFault.Memory → read_line (texts words.now) ≡ Err fault) }
 {
-    match read_names(alloc, words) {
-        Ok(names) => Ok(Line::Init {
-            names: List::of(names),
-        }),
-        Err(fault) => Err(fault),
+    if words.is_empty() {
+        return Err(WordsFault::NoCommand);
+    }
+    let rest = &words[1..];
+    match words[0].as_str() {
+        "init" => init_line(alloc, rest),
+        "list" => list_line(rest),
+        _ => Err(WordsFault::UnknownCommand),
     }
 }
