@@ -2,6 +2,7 @@ pub mod Causes
 pub mod Fed
 pub mod Fields
 pub mod Hashes
+pub mod InMemory
 pub mod Listed
 pub mod Names
 pub mod Padded

@@ -1,32 +1,21 @@
 //! A sink in memory.
-ghost use Rattle.std.specs.Prelude.{◌≡◌, ◌<◌, Some, []};
-ghost use Rattle.cm_base.specs.Streams.{nothing_beside};
+ghost use Rattle.std.specs.Prelude.{◌≡◌, ◌<◌, ◌≤◌, Some, [], length, take, IfOk, OnErr};
+ghost use Rattle.cm_base.specs.Causes.{HasCause};
+ghost use Rattle.cm_base.specs.InMemory.{counters_of_sink, got_of, fresh, FailsExactly};
+ghost use Rattle.cm_base.specs.Streams.{Gets, GetsFront, nothing_beside};
 
+use crate::in_memory::MemSink;
+use crate::listed::is_among;
 use crate::{Sink, SinkFault};
 use std::alloc::Global;
-
-/// Takes bytes into memory, at most `piece` of them in one call. The calls with listed numbers fail, and so does one that
-/// finds no memory.
-#[derive(Drop)]
-pub struct MemSink {
-    bytes: Vec<u8>,
-    piece: usize,
-    fail: Vec<u64>,
-    number: u64,
-    faults: u64,
-    short: u64,
-    ghost some: { 0 < piece },
-}
 
 impl MemSink {
     /// An empty sink that takes at most `piece` bytes a call, and fails exactly at the calls whose numbers, from 0, are in
     /// `fail`, and where a growth finds no memory.
     pub fn new(alloc: Global, piece: usize, fail: Vec<u64>) -> MemSink
         requires { 0 < piece }
-        ensures bytes { result.bytes.items ≡ [] }
-        ensures fail { result.fail.items ≡ fail.items }
-        ensures number { result.number ≡ 0 }
-        ensures short { result.short ≡ 0 }
+        ensures bytes { got_of result ≡ Some [] }
+        ensures counters { counters_of_sink result ≡ fresh fail.items piece }
     {
         MemSink {
             bytes: Vec::new(alloc),
@@ -40,30 +29,39 @@ impl MemSink {
 
     /// The bytes that it got.
     pub fn bytes(&self) -> &[u8]
-        ensures { result.now ≡ self.now.bytes.items }
+        ensures { got_of self.now ≡ Some result.now }
     {
         &self.bytes
     }
 
     /// How many calls failed for want of memory.
     pub fn short(&self) -> u64
-        ensures { result ≡ self.now.short }
+        ensures { result ≡ (counters_of_sink self.now).short }
     {
         self.short
     }
 }
 
 impl Sink for MemSink {
-    ghost got = { λ sink. Some sink.bytes.items };
+    ghost got = { got_of };
 
-    ghost faults = { λ sink. sink.faults };
+    ghost faults = { λ sink. (counters_of_sink sink).faults };
 
     ghost beside = { λ _. nothing_beside };
 
-    fn write(&mut self, bytes: &[u8]) -> Result<usize, SinkFault> {
+    /// Fails exactly at a listed call, or where `short` rises.
+    fn write(&mut self, bytes: &[u8]) -> Result<usize, SinkFault>
+        ensures fits { IfOk result (λ count. count ≤ length bytes.now) }
+        ensures some { IfOk result (λ count. 0 < length bytes.now → 0 < count) }
+        ensures taken { IfOk result (λ count. Gets (got_of self.old) (got_of self.new) (take count bytes.now)) }
+        ensures failed { OnErr result (GetsFront (got_of self.old) (got_of self.new) bytes.now) }
+        ensures cause { HasCause (counters_of_sink self.old).faults (counters_of_sink self.new).faults result }
+        ensures piece { IfOk result (λ count. count ≤ (counters_of_sink self.old).piece) }
+        ensures exact { FailsExactly (counters_of_sink self.old) (counters_of_sink self.new) result }
+    {
         let number = self.number;
         self.number = number.saturating_add(1);
-        if self.fail.iter().any(|listed| *listed == number) {
+        if is_among(&self.fail, number) {
             self.faults = self.faults.saturating_add(1);
             return Err(SinkFault);
         }

@@ -1,33 +1,20 @@
 //! A source in memory.
 ghost use Rattle.std.specs.Prelude.{◌≡◌, ◌+◌, ◌-◌, ◌^◌, ◌≤◌, ◌<◌, ◌↔◌, min, length, drop, Some, IfOk, OnErr, IsErr, true};
 ghost use Rattle.cm_base.specs.Causes.{HasCause};
-ghost use Rattle.cm_base.specs.Listed.{is_listed};
+ghost use Rattle.cm_base.specs.InMemory.{counters_of_source, left_of, fresh, FailsExactly};
 ghost use Rattle.cm_base.specs.Streams.{Gives, nothing_beside};
 
+use crate::in_memory::MemSource;
+use crate::listed::is_among;
 use crate::{Source, SourceFault};
-
-/// Bytes in memory. At most `piece` of them come in one call, and the calls with listed numbers fail.
-#[derive(Drop)]
-pub struct MemSource {
-    bytes: Vec<u8>,
-    at: usize,
-    piece: usize,
-    fail: Vec<u64>,
-    number: u64,
-    faults: u64,
-    ghost some: { 0 < piece },
-    ghost within: { at ≤ length bytes.items },
-}
 
 impl MemSource {
     /// A source of these bytes, at most `piece` a call, that fails exactly at the calls whose numbers, from 0, are in
     /// `fail`.
     pub fn new(bytes: Vec<u8>, piece: usize, fail: Vec<u64>) -> MemSource
         requires { 0 < piece }
-        ensures bytes { result.bytes.items ≡ bytes.items }
-        ensures start { result.at ≡ 0 }
-        ensures fail { result.fail.items ≡ fail.items }
-        ensures number { result.number ≡ 0 }
+        ensures bytes { left_of result ≡ Some bytes.items }
+        ensures counters { counters_of_source result ≡ fresh fail.items piece }
     {
         MemSource {
             bytes,
@@ -41,16 +28,24 @@ impl MemSource {
 }
 
 impl Source for MemSource {
-    ghost left = { λ source. Some (drop source.at source.bytes.items) };
+    ghost left = { left_of };
 
-    ghost faults = { λ source. source.faults };
+    ghost faults = { λ source. (counters_of_source source).faults };
 
     ghost beside = { λ _. nothing_beside };
 
-    fn read(&mut self, buf: &mut [u8]) -> Result<usize, SourceFault> {
+    /// Fails exactly at a listed call.
+    fn read(&mut self, buf: &mut [u8]) -> Result<usize, SourceFault>
+        ensures fits { IfOk result (λ count. count ≤ length buf.new) }
+        ensures given { IfOk result (λ count. Gives (left_of self.old) (left_of self.new) buf.new count) }
+        ensures failed { OnErr result (left_of self.new ≡ left_of self.old) }
+        ensures cause { HasCause (counters_of_source self.old).faults (counters_of_source self.new).faults result }
+        ensures piece { IfOk result (λ count. count ≤ (counters_of_source self.old).piece) }
+        ensures exact { FailsExactly (counters_of_source self.old) (counters_of_source self.new) result }
+    {
         let number = self.number;
         self.number = number.saturating_add(1);
-        if self.fail.iter().any(|listed| *listed == number) {
+        if is_among(&self.fail, number) {
             self.faults = self.faults.saturating_add(1);
             return Err(SourceFault);
         }

@@ -9,15 +9,8 @@ ghost use Rattle.cm_tree.specs.MemFolders.{IsMadeOf};
 use crate::mem_place::join;
 use crate::mem_read::{path_kept, read_kept};
 use crate::{Folder, FolderFault, MemFolder, RawPath};
-use cm_base::Memory;
+use cm_base::{Memory, is_among};
 use std::alloc::Global;
-
-/// Whether a number is listed.
-fn is_among(fail: &[u64], number: u64) -> bool
-    ensures { result ≡ is_listed fail.now number }
-{
-    fail.iter().any(|listed| *listed == number)
-}
 
 impl MemFolder {
     ghost use Rattle.cm_tree.specs.MemCalls.{shown_by, fails_at, calls_of, faults_of};
