@@ -65,6 +65,8 @@ impl Log {
             × IsUnsettled now (D.may_leave disk.new) self.new (shelved (shelf_of self.old) files) body.now × ((q : List ℕ) → q ≢ place_of self.old → now q ≡ files q)) }
         ensures stands { IsErrOf result AppendFault.Disk → ForSome (D.reads disk.new) (λ files. Stands files (D.may_leave disk.new) self.new) }
         ensures not_idle { IsErrOf result AppendFault.Disk → is_settled self.new ≡ false }
+        // A disk that does not tell what it reads as does not tell it afterwards.
+        ensures silent { D.reads disk.old ≡ None → D.reads disk.new ≡ None }
         ensures later { D.faults disk.old ≤ D.faults disk.new }
         ensures cause { IsErrOf result AppendFault.Disk → Rose (D.faults disk.old) (D.faults disk.new) }
     {
