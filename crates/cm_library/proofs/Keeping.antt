@@ -47,7 +47,7 @@ done_free f rows s job is free =
 pub state_same : (a b : State) → a.versions ≡ b.versions → a.jobs ≡ b.jobs → a.next ≡ b.next → a.lasts ≡ b.lasts → a ≡ b
 state_same a b v j n l = λ i. record { versions = v i; jobs = j i; next = n i; lasts = l i }
 
-no_some : {A B : Type 0} (f : A → B) (o : Option A) → option_map f o ≡ None → o ≡ None
+pub no_some : {A B : Type 0} (f : A → B) (o : Option A) → option_map f o ≡ None → o ≡ None
 no_some f None is = refl
 no_some f (Some x) is = absurd (none-some (f x) (sym is))
 

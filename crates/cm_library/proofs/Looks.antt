@@ -1,13 +1,15 @@
 -- Which files are no library, and which are an empty one.
-use Rattle.std.proofs.Common.{◌≡◌, ◌≢◌, Bool, true, false, Option, None, Some, IsSome, refl, ◌∙◌, ap}
+use Rattle.std.proofs.Common.{◌≡◌, ◌≢◌, ℕ, Bool, true, false, List, Option, None, Some, IsSome, refl, ◌∙◌, ap}
 use Rattle.cm_disk.specs.Disk.{File, Files}
 use Rattle.cm_log.specs.declared.shelf.Shelf.TheVariants.{PkgLib}
 use Rattle.cm_log.specs.declared.head.Choice.{Choice}
 use Rattle.cm_log.specs.declared.head.Choice.TheVariants.{Chosen, Refused}
-use Rattle.cm_log.specs.Shelves.{ready_place}
-use Rattle.cm_log.specs.Logs.{NoLog, shelved, shelved_by, told_by, fresh}
+use Rattle.cm_log.specs.Shelves.{ready_place, log_place}
+use Rattle.cm_log.specs.Logs.{Ending, Closed, Broken, NoLog, rest_at, shelved, shelved_by, told_by, fresh}
+use Rattle.std.specs.Prelude.{cond}
+use Rattle.cm_pkglib.specs.Rows.{Rows, no_rows}
 use Rattle.cm_library.specs.State.{State, empty}
-use Rattle.cm_library.specs.Look.{Library, Missing, Opened, Unreadable, look, look_at, opened_or}
+use Rattle.cm_library.specs.Look.{Library, Missing, Opened, Unreadable, look, look_at, opened_or, ended_or, rows_from, has_room, loaded}
 
 abbrev is_missing : Library → Bool
 is_missing Missing = true
@@ -18,8 +20,16 @@ opened_there : (state : Option State) → is_missing (opened_or state) ≡ false
 opened_there (Some state) = refl
 opened_there None = refl
 
+ended_there : (files : Files) (place : List ℕ) (ending : Ending) (rows : Option Rows) → is_missing (ended_or files place ending rows) ≡ false
+ended_there files place ending None = refl
+ended_there files place (Closed end) (Some rows) = opened_there (cond (has_room end rows) (loaded files rows) None)
+ended_there files place (Broken at) (Some rows) = refl
+
 told_there : (files : Files) (made : Choice) → is_missing (look_at files (told_by made PkgLib files)) ≡ false
-told_there files (Chosen side) = opened_there _
+told_there files (Chosen side) =
+    let place = log_place PkgLib side in
+    let reading = rest_at files place 10 in
+    ended_there files place reading.ending (rows_from (Some no_rows) reading.entries)
 told_there files (Refused side at) = refl
 
 shelved_there : (files : Files) (ready : File) → IsSome ready → is_missing (look_at files (shelved_by ready PkgLib files)) ≡ false

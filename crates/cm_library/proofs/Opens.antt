@@ -10,53 +10,27 @@ use Rattle.cm_log.specs.Shelves.{log_place}
 use Rattle.cm_log.specs.Logs.{Entry as Record, Ending, Closed, Broken, Reading, Shelved, Unread, Live, ended, shelved}
 use Rattle.cm_log.specs.Settled.{reader_place, reader_at, has_ended, rest_of, IsReading}
 use Rattle.cm_pkglib.specs.Rows.{Rows, no_rows}
-use Rattle.cm_library.specs.declared.fault.OpenFault.{OpenFault}
-use Rattle.cm_library.specs.declared.fault.OpenFault.TheVariants.{Unreadable as OpenUnreadable}
 use Rattle.cm_library.specs.State.{State}
-use Rattle.cm_library.specs.Look.{Library, Opened, Unreadable, unreadable, look, look_at, opened_or, state_after, rows_from, has_room, loaded}
-use Rattle.cm_library.specs.Replay.{state_at, state_from}
-
-nothing_broken : (files : Files) (at : ℕ) (o : Option Rows) → None ≡ option_and_then (state_at files (Broken at)) o
-nothing_broken files at None = refl
-nothing_broken files at (Some rows) = refl
-
-after_from : (files : Files) (entries : List Record) (ending : Ending) → state_after files entries ending ≡ option_and_then (state_at files ending) (rows_from (Some no_rows) entries)
-after_from files entries (Closed end) = refl
-after_from files entries (Broken at) = nothing_broken files at (rows_from (Some no_rows) entries)
-
--- a live log is what its records make
-look_live : (files : Files) (place : List ℕ) (reading : Reading) → shelved PkgLib files ≡ Live place reading → look files ≡ opened_or (state_from files (Some no_rows) reading)
-look_live files place reading live = ap (λ (x : Shelved). look_at files x) live ∙ ap opened_or (after_from files reading.entries reading.ending)
+use Rattle.cm_library.specs.Look.{Library, Opened, Unreadable, unreadable, look, look_at, opened_or, library_from, has_room, loaded}
 
 -- the records were read up to the closed gate
 pub look_closed : (files : Files) (may_leave : List ℕ → File → Type 0) (first last : LogReader) (rows : Rows) (end : ℕ)
     → shelved PkgLib files ≡ Live (reader_place first) (rest_of files first)
-    → state_from files (Some no_rows) (rest_of files first) ≡ state_from files (Some rows) (rest_of files last)
+    → library_from files (reader_place first) (Some no_rows) (rest_of files first) ≡ library_from files (reader_place first) (Some rows) (rest_of files last)
     → IsReading files may_leave last → has_ended last ≡ true → end ≡ reader_at last
     → look files ≡ opened_or (cond (has_room end rows) (loaded files rows) None)
 look_closed files may_leave first last rows end live makes reading done is =
-    look_live files (reader_place first) (rest_of files first) live
-    ∙ ap opened_or makes
-    ∙ ap (λ (r : Reading). opened_or (state_from files (Some rows) r)) (reading.at.ended done)
+    ap (λ (x : Shelved). look_at files x) live
+    ∙ makes
+    ∙ ap (λ (r : Reading). library_from files (reader_place first) (Some rows) r) (reading.at.ended done)
     ∙ ap (λ (n : ℕ). opened_or (cond (has_room n rows) (loaded files rows) None)) (sym is)
 
 -- they could not be
-pub look_broken : (files : Files) (first : LogReader) → shelved PkgLib files ≡ Live (reader_place first) (rest_of files first) → state_from files (Some no_rows) (rest_of files first) ≡ None → look files ≡ unreadable
-look_broken files first live none = look_live files (reader_place first) (rest_of files first) live ∙ ap opened_or none
+pub look_broken : (files : Files) (first : LogReader) (library : Library) → shelved PkgLib files ≡ Live (reader_place first) (rest_of files first) → library_from files (reader_place first) (Some no_rows) (rest_of files first) ≡ library → look files ≡ library
+look_broken files first library live is = ap (λ (x : Shelved). look_at files x) live ∙ is
 
-pub look_unread : (files : Files) (place : List ℕ) (at : ℕ) → shelved PkgLib files ≡ Unread place at → look files ≡ unreadable
+pub look_unread : (files : Files) (place : List ℕ) (at : ℕ) → shelved PkgLib files ≡ Unread place at → look files ≡ Unreadable place at
 look_unread files place at is = ap (λ (x : Shelved). look_at files x) is
-
--- what is answered for all that is unreadable
-err_is : {T : Type 0} (a b : OpenFault) → IsErrOf {T = T} (Err a) b → a ≡ b
-err_is a b is = cc
-
-pub named : {T : Type 0} (fault : OpenFault) (place : List ℕ) (at : ℕ) → fault ≡ OpenUnreadable (log_place PkgLib First) 0 → IsErrOf {T = T} (Err fault) (OpenUnreadable place at) → (files : Files) → look files ≡ unreadable → look files ≡ Unreadable place at
-named {T} fault place at known is files look_is =
-    let same : OpenUnreadable (log_place PkgLib First) 0 ≡ OpenUnreadable place at = sym known ∙ err_is {T = T} fault (OpenUnreadable place at) is in
-    let p : log_place PkgLib First ≡ place = cc in
-    let n : 0 ≡ at = cc in
-    look_is ∙ ap (λ (q : List ℕ). Unreadable q 0) p ∙ ap (λ (k : ℕ). Unreadable place k) n
 
 pub no_room : (files : Files) (end : ℕ) (rows : Rows) → has_room end rows ≡ false → look files ≡ opened_or (cond (has_room end rows) (loaded files rows) None) → look files ≡ unreadable
 no_room files end rows none is = is ∙ ap (λ (b : Bool). opened_or (cond b (loaded files rows) None)) none

@@ -17,7 +17,7 @@ use Rattle.cm_pkglib.specs.Changes.{read_change}
 use Rattle.cm_pkglib.specs.Rows.{Rows, no_rows, fault_of, after, step}
 use Rattle.cm_library.specs.Places.{manifest_place}
 use Rattle.cm_library.specs.State.{Held, State, rows_of}
-use Rattle.cm_library.specs.Look.{Library, Missing, Opened, Unreadable, known, change_of, rows_after, rows_from, has_room, held, both, all_held, all_jobs, state_of, loaded, state_after, unreadable, opened_or, look_at, look}
+use Rattle.cm_library.specs.Look.{Library, Missing, Opened, Unreadable, known, change_of, rows_after, rows_from, has_room, held, both, all_held, all_jobs, state_of, loaded, unreadable, opened_or, ended_or, library_from, look_at, look}
 use Rattle.cm_library.proofs.Loaded.{HasHeld, HasJob, loaded_is, loaded_state, same_manifest}
 
 -- once a record is refused there are no rows
@@ -33,6 +33,14 @@ rows_more rows (x ∷ entries) e = rows_more (option_and_then (rows_after x) row
 pub opened_some : (o : Option State) (s : State) → opened_or o ≡ Opened s → o ≡ Some s
 opened_some None s is = absurd (cc)
 opened_some (Some x) s is = cc
+
+pub ended_some : (files : Files) (place : List ℕ) (end : ℕ) (o : Option Rows) (s : State) → ended_or files place (Closed end) o ≡ Opened s → (rows : Rows) × (o ≡ Some rows) × (cond (has_room end rows) (loaded files rows) None ≡ Some s)
+ended_some files place end None s is = absurd (cc)
+ended_some files place end (Some rows) s is = (rows, refl, opened_some (cond (has_room end rows) (loaded files rows) None) s is)
+
+pub not_broken : (files : Files) (place : List ℕ) (at : ℕ) (o : Option Rows) (s : State) → ended_or files place (Broken at) o ≡ Opened s → ⊥
+not_broken files place at None s is = cc
+not_broken files place at (Some rows) s is = cc
 
 pub then_some : {A B : Type 0} (o : Option A) (g : A → Option B) (s : B) → option_and_then g o ≡ Some s → (r : A) × (o ≡ Some r) × (g r ≡ Some s)
 then_some None g s is = absurd (cc)
@@ -51,8 +59,7 @@ pub record Grounds (files : Files) (entries : List Record) (end : ℕ) (s : Stat
 
 pub grounds_of : (files : Files) (place : List ℕ) (entries : List Record) (end : ℕ) (s : State) → shelved PkgLib files ≡ Live place (closed entries end) → look files ≡ Opened s → Grounds files entries end s
 grounds_of files place entries end s live opened =
-    let after : state_after files entries (Closed end) ≡ Some s = opened_some (state_after files entries (Closed end)) s (sym (ap (λ (x : Shelved). look_at files x) live) ∙ opened) in
-    let t = then_some (rows_from (Some no_rows) entries) (λ rows. cond (has_room end rows) (loaded files rows) None) s after in
+    let t = ended_some files place end (rows_from (Some no_rows) entries) s (sym (ap (λ (x : Shelved). look_at files x) live) ∙ opened) in
     let c = cond_some (has_room end t.0) (loaded files t.0) s t.2 in
     let l = loaded_is files t.0 s c.1 in
     record {
@@ -65,7 +72,7 @@ grounds_of files place entries end s live opened =
 pub opened_by : (files : Files) (place : List ℕ) (entries : List Record) (end : ℕ) (s : State) → shelved PkgLib files ≡ Live place (closed entries end) → Grounds files entries end s → look files ≡ Opened s
 opened_by files place entries end s live g =
     ap (λ (x : Shelved). look_at files x) live
-    ∙ ap (λ (o : Option Rows). opened_or (option_and_then (λ rows. cond (has_room end rows) (loaded files rows) None) o)) g.rows
+    ∙ ap (λ (o : Option Rows). ended_or files place (Closed end) o) g.rows
     ∙ ap (λ (b : Bool). opened_or (cond b (loaded files (rows_of s)) None)) g.room
     ∙ ap opened_or (loaded_state files s g.versions g.jobs)
 
@@ -115,13 +122,10 @@ loaded_same files now same rows =
     ap (λ (o : Option (List Held)). state_of rows o (all_jobs now rows.jobs)) (all_same files now same rows.versions)
     ∙ ap (λ (o : Option (List (ℕ × Held))). state_of rows (all_held files rows.versions) o) (jobs_same files now same rows.jobs)
 
-after_same : (files now : Files) → ((id : List ℕ) (version : ℕ) → now (manifest_place id version) ≡ files (manifest_place id version)) → (entries : List Record) (ending : Ending) → state_after now entries ending ≡ state_after files entries ending
-after_same files now same entries (Broken at) = refl
-after_same files now same entries (Closed end) = by (rows_from (Some no_rows) entries)
-  where
-    by : (o : Option Rows) → option_and_then (λ rows. cond (has_room end rows) (loaded now rows) None) o ≡ option_and_then (λ rows. cond (has_room end rows) (loaded files rows) None) o
-    by None = refl
-    by (Some rows) = ap (λ (l : Option State). cond (has_room end rows) l None) (loaded_same files now same rows)
+ended_same : (files now : Files) → ((id : List ℕ) (version : ℕ) → now (manifest_place id version) ≡ files (manifest_place id version)) → (place : List ℕ) (ending : Ending) (o : Option Rows) → ended_or now place ending o ≡ ended_or files place ending o
+ended_same files now same place ending None = refl
+ended_same files now same place (Broken at) (Some rows) = refl
+ended_same files now same place (Closed end) (Some rows) = ap (λ (l : Option State). opened_or (cond (has_room end rows) l None)) (loaded_same files now same rows)
 
 pub look_same : (files now : Files) → now (ready_place PkgLib) ≡ files (ready_place PkgLib) → ((side : Side) → now (log_place PkgLib side) ≡ files (log_place PkgLib side))
     → ((id : List ℕ) (version : ℕ) → now (manifest_place id version) ≡ files (manifest_place id version)) → look now ≡ look files
@@ -130,4 +134,4 @@ look_same files now ready logs same = ap (λ (x : Shelved). look_at now x) (alik
     by : (x : Shelved) → look_at now x ≡ look_at files x
     by NoLog = refl
     by (Unread place at) = refl
-    by (Live place reading) = ap opened_or (after_same files now same reading.entries reading.ending)
+    by (Live place reading) = ended_same files now same place reading.ending (rows_from (Some no_rows) reading.entries)

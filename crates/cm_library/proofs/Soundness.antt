@@ -1,7 +1,8 @@
 -- What holds of each state that records make.
 use Rattle.std.proofs.Common.{◌≡◌, ◌⊎◌, inl, inr, ℕ, ◌+◌, ◌<◌, ◌≤◌, max, Bool, true, false, List, [], ◌∷◌, ◌++◌, length, refl, sym, ◌∙◌, ap, subst, arith}
-use Rattle.std.specs.Prelude.{Option, None, Some, is_some, cond, option_map, find, not, ◌==◌}
-use Rattle.std.specs.List.{AllByRecursion}
+use Rattle.std.specs.Prelude.{Option, None, Some, is_some, cond, option_map, find, not, ◌==◌, ◌&&◌, take, drop}
+use Rattle.std.specs.List.{AllByRecursion, list_all}
+use Rattle.std.proofs.lemmas.Bool.{eqb-true}
 use Rattle.std.specs.Str.{bytes_eq}
 use Rattle.std.specs.Ordering.{nat_cmp, is_eq}
 use Rattle.std.specs.Cmp.Lexicographic.{slice_cmp}
@@ -18,7 +19,9 @@ use Rattle.cm_pkglib.proofs.Among.{All-map, All-append, find_middle}
 use Rattle.cm_pkglib.proofs.Halves.{splits, none_between}
 use Rattle.cm_pkglib.proofs.Changed.{of_package, with_last_new, with_last_old}
 use Rattle.cm_pkglib.proofs.Replays.{after_valid}
-use Rattle.cm_library.specs.Sound.{IsCovered, AreSound}
+use Rattle.cm_base.specs.Names.{is_code_byte, is_upper_hex}
+use Rattle.cm_pkglib.specs.Changes.{IsChange}
+use Rattle.cm_library.specs.Sound.{IsCovered, AreSound, IsNamed, AreNamed, AreFit, NamesVersion}
 use Rattle.cm_library.proofs.Lists.{all_filter, found_one, find_none}
 
 abbrev Last : Type 0
@@ -159,3 +162,34 @@ after_sound (Removed id version) rows valid sound free = record {
   versions_covered = all_filter (IsCovered rows.lasts) (λ (r : PkgRow). not (is_of id version r)) rows.versions sound.versions_covered;
   jobs_covered = sound.jobs_covered;
 }
+
+-- names stay names
+named_done : (o : Option Job) (rows : List PkgRow) → ((job : Job) → o ≡ Some job → IsNamed job.1) → AllByRecursion IsNamed rows → AllByRecursion IsNamed (with_done (option_map (λ (u : Job). u.1) o) rows)
+named_done None rows one all = all
+named_done (Some job) rows one all = all_put IsNamed job.1 rows (one job refl) all
+
+pub after_named : (change : Change) (rows : Rows) → AreNamed rows → NamesVersion change → AreNamed (after change rows)
+after_named (Opened job id version entries size hash) rows named names = record { versions = named.versions; jobs = All-append (λ (u : Job). IsNamed u.1) rows.jobs _ named.jobs (names, tt) }
+after_named (Done job) rows named names = record {
+  versions = named_done (find (λ (u : Job). u.0 == job) rows.jobs) rows.versions (λ j is. found_one (λ (u : Job). IsNamed u.1) (λ (u : Job). u.0 == job) rows.jobs named.jobs j is) named.versions;
+  jobs = all_filter (λ (u : Job). IsNamed u.1) (λ (u : Job). not (u.0 == job)) rows.jobs named.jobs;
+}
+after_named (Dropped job) rows named names = record { versions = named.versions; jobs = all_filter (λ (u : Job). IsNamed u.1) (λ (u : Job). not (u.0 == job)) rows.jobs named.jobs }
+after_named (Removed id version) rows named names = record { versions = all_filter IsNamed (λ (r : PkgRow). not (is_of id version r)) rows.versions named.versions; jobs = named.jobs }
+
+pub no_rows_fit : AreFit no_rows
+no_rows_fit = record { sound = no_rows_sound; named = record { versions = tt; jobs = tt } }
+
+pub after_fit : (change : Change) (rows : Rows) → AreValid rows → AreFit rows → NamesVersion change → fault_of rows change ≡ None → AreFit (after change rows)
+after_fit change rows valid fit names free = record { sound = after_sound change rows valid fit.sound free; named = after_named change rows fit.named names }
+
+-- a change in its ranges names a version
+long_of : (a b c : Bool) → (a && b && c) ≡ true → a ≡ true
+long_of true b c is = refl
+long_of false b c is = absurd (cc)
+
+pub names_of : (change : Change) → IsChange change → NamesVersion change
+names_of (Opened job id version entries size hash) ranges = (eqb-true (length id) 8 (long_of (length id == 8) (list_all is_code_byte (take 3 id)) (list_all is_upper_hex (drop 3 id)) ranges.1), ranges.2.1)
+names_of (Done job) ranges = tt
+names_of (Dropped job) ranges = tt
+names_of (Removed id version) ranges = tt

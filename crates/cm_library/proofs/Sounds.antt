@@ -12,10 +12,10 @@ use Rattle.cm_pkglib.specs.Rows.{Rows, no_rows, fault_of, after, step}
 use Rattle.cm_pkglib.specs.Valid.{AreValid}
 use Rattle.cm_pkglib.proofs.Replays.{no_rows_valid, after_valid}
 use Rattle.cm_library.specs.State.{State, rows_of}
-use Rattle.cm_library.specs.Look.{Library, Missing, Opened, change_of, rows_after, rows_from, has_room, loaded, state_after, opened_or, look_at, look}
+use Rattle.cm_library.specs.Look.{Library, Missing, Opened, change_of, rows_after, rows_from, has_room, loaded, ended_or, look_at, look}
 use Rattle.cm_library.specs.Sound.{AreSound, IsSound}
 use Rattle.cm_library.proofs.Loaded.{loaded_is}
-use Rattle.cm_library.proofs.Replaying.{rows_none, opened_some, then_some, cond_some}
+use Rattle.cm_library.proofs.Replaying.{rows_none, ended_some, not_broken, then_some, cond_some}
 use Rattle.cm_library.proofs.Soundness.{no_rows_sound, after_sound}
 
 -- rows that records can make
@@ -44,17 +44,17 @@ rows_from_rows (e ∷ entries) rows last are is = by (rows_after e rows) refl (�
         absurd (none-some last clash)
     by (Some next) some rest = rest next (after_rows e rows next are some) (sym (ap (λ (o : Option Rows). rows_from o entries) some) ∙ is)
 
-after_sounds : (files : Files) (entries : List Record) (ending : Ending) (s : State) → state_after files entries ending ≡ Some s → IsSound s
-after_sounds files entries (Broken at) s is = absurd (cc)
-after_sounds files entries (Closed end) s is =
-    let t = then_some (rows_from (Some no_rows) entries) (λ rows. cond (has_room end rows) (loaded files rows) None) s is in
+ended_sound : (files : Files) (place : List ℕ) (entries : List Record) (ending : Ending) (s : State) → ended_or files place ending (rows_from (Some no_rows) entries) ≡ Opened s → IsSound s
+ended_sound files place entries (Broken at) s is = absurd (not_broken files place at (rows_from (Some no_rows) entries) s is)
+ended_sound files place entries (Closed end) s is =
+    let t = ended_some files place end (rows_from (Some no_rows) entries) s is in
     let c = cond_some (has_room end t.0) (loaded files t.0) s t.2 in
     subst AreSound (loaded_is files t.0 s c.1).rows_are (rows_from_rows entries no_rows t.0 (record { valid = no_rows_valid; sound = no_rows_sound }) t.1).sound
 
 sound_at : (files : Files) (x : Shelved) (s : State) → look_at files x ≡ Opened s → IsSound s
 sound_at files NoLog s is = absurd (cc)
 sound_at files (Unread place at) s is = absurd (cc)
-sound_at files (Live place reading) s is = after_sounds files reading.entries reading.ending s (opened_some (state_after files reading.entries reading.ending) s is)
+sound_at files (Live place reading) s is = ended_sound files place reading.entries reading.ending s is
 
 pub look_sound : (files : Files) (s : State) → look files ≡ Opened s → IsSound s
 look_sound files s is = sound_at files (shelved PkgLib files) s is

@@ -79,7 +79,7 @@ pub log_side : (files : Files) (place : List ℕ) (reading : Reading) → shelve
 log_side files place reading live = let l = lives PkgLib files place reading live in (l.side, l.at)
 
 -- the live log by the shelf's name
-live_at : (files : Files) (log : Log) → shelf_of log ≡ PkgLib → (e : EndsIn files log) → shelved PkgLib files ≡ Live (place_of log) (closed e.entries (end_of log))
+pub live_at : (files : Files) (log : Log) → shelf_of log ≡ PkgLib → (e : EndsIn files log) → shelved PkgLib files ≡ Live (place_of log) (closed e.entries (end_of log))
 live_at files log shelf e = ap (λ (s : Shelf). shelved s files) (sym shelf) ∙ e.live
 
 -- the log takes the record of a change: the library takes the change

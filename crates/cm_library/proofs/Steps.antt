@@ -8,29 +8,28 @@ use Rattle.cm_log.specs.Logs.{Entry as Record, Ending, Closed, Broken, Reading, 
 use Rattle.cm_log.specs.declared.position.LogReader.{LogReader}
 use Rattle.cm_log.specs.Settled.{reader_shelf, reader_place, reader_at, has_ended, rest_of, IsReading}
 use Rattle.cm_pkglib.specs.Rows.{Rows}
-use Rattle.cm_library.specs.State.{State}
-use Rattle.cm_library.specs.Look.{rows_from}
-use Rattle.cm_library.specs.Replay.{rows_after_body, state_at, state_from}
+use Rattle.cm_library.specs.Look.{Library, Unreadable, unreadable, rows_from, ended_or, library_from}
+use Rattle.cm_library.specs.Replay.{rows_after_body}
 use Rattle.cm_library.proofs.Replaying.{rows_none}
 
 -- a record that the rows take
-pub takes : (files : Files) (rows next : Rows) (gate : ℕ) (body : List ℕ) (old rest : Reading) → old ≡ following (record { gate = gate; body = body } ∷ []) rest → rows_after_body body rows ≡ Some next
-    → state_from files (Some rows) old ≡ state_from files (Some next) rest
-takes files rows next gate body old rest is step =
-    ap (λ (r : Reading). state_from files (Some rows) r) is
-    ∙ ap (λ (o : Option Rows). option_and_then (state_at files rest.ending) (rows_from o rest.entries)) step
+pub takes : (files : Files) (place : List ℕ) (rows next : Rows) (gate : ℕ) (body : List ℕ) (old rest : Reading) → old ≡ following (record { gate = gate; body = body } ∷ []) rest → rows_after_body body rows ≡ Some next
+    → library_from files place (Some rows) old ≡ library_from files place (Some next) rest
+takes files place rows next gate body old rest is step =
+    ap (λ (r : Reading). library_from files place (Some rows) r) is
+    ∙ ap (λ (o : Option Rows). ended_or files place rest.ending (rows_from o rest.entries)) step
 
 -- a record that they refuse
-pub refuses : (files : Files) (rows : Rows) (gate : ℕ) (body : List ℕ) (old rest : Reading) → old ≡ following (record { gate = gate; body = body } ∷ []) rest → rows_after_body body rows ≡ None
-    → state_from files (Some rows) old ≡ None
-refuses files rows gate body old rest is step =
-    ap (λ (r : Reading). state_from files (Some rows) r) is
-    ∙ ap (λ (o : Option Rows). option_and_then (state_at files rest.ending) (rows_from o rest.entries)) step
-    ∙ ap (λ (o : Option Rows). option_and_then (state_at files rest.ending) o) (rows_none rest.entries)
+pub refuses : (files : Files) (place : List ℕ) (rows : Rows) (gate : ℕ) (body : List ℕ) (old rest : Reading) → old ≡ following (record { gate = gate; body = body } ∷ []) rest → rows_after_body body rows ≡ None
+    → library_from files place (Some rows) old ≡ unreadable
+refuses files place rows gate body old rest is step =
+    ap (λ (r : Reading). library_from files place (Some rows) r) is
+    ∙ ap (λ (o : Option Rows). ended_or files place rest.ending (rows_from o rest.entries)) step
+    ∙ ap (λ (o : Option Rows). ended_or files place rest.ending o) (rows_none rest.entries)
 
 -- a file that ends in the middle
-pub breaks : (files : Files) (rows : Rows) (at : ℕ) (old : Reading) → old ≡ ended (Broken at) → state_from files (Some rows) old ≡ None
-breaks files rows at old is = ap (λ (r : Reading). state_from files (Some rows) r) is
+pub breaks : (files : Files) (place : List ℕ) (rows : Rows) (at : ℕ) (old : Reading) → old ≡ ended (Broken at) → library_from files place (Some rows) old ≡ Unreadable place at
+breaks files place rows at old is = ap (λ (r : Reading). library_from files place (Some rows) r) is
 
 abbrev ending_at : Ending → ℕ
 ending_at (Closed end) = end

@@ -91,7 +91,7 @@ old_whole : (files now : Files) (trees : Trees) → AllByRecursion (λ (v : Vers
 old_whole files now trees whole keeps =
     each_member (λ (v : Version). HasTree now v.tree) trees.versions (λ v of_v.
     each_member (λ (file : File). now (file_place (sha256 file.bytes)) ≡ Some file.bytes) v.tree (λ file of_file.
-    keeps (sha256 file.bytes) (names_file trees v file of_v of_file)
+    keeps file.bytes (names_file trees v file of_v of_file)
     ∙ at_member (λ (file : File). files (file_place (sha256 file.bytes)) ≡ Some file.bytes) v.tree (at_member (λ (v : Version). HasTree files v.tree) trees.versions whole v of_v) file of_file))
 
 -- the files of the new one
@@ -105,7 +105,7 @@ new_whole files now trees tree whole adds apart =
           let there = Contains-append_right (bytes_of_tree tree) (bytes_of_trees trees) o.file.bytes
           (flat_member (λ (v : Version). bytes_of_tree v.tree) trees.versions o.version o.file.bytes o.of_version (map_member (λ (file : File). file.bytes) o.version.tree o.file o.of_file)) in
           let stands = at_member (λ (file : File). files (file_place (sha256 file.bytes)) ≡ Some file.bytes) o.version.tree (at_member (λ (v : Version). HasTree files v.tree) trees.versions whole o.version o.of_version) o.file o.of_file in
-          adds.keeps (sha256 file.bytes) named
+          adds.keeps file.bytes named
           ∙ ap (λ (hash : List ℕ). files (file_place hash)) (sym o.same)
           ∙ stands
           ∙ ap (λ (b : List ℕ). Some b) (apart o.file.bytes file.bytes there here o.same)

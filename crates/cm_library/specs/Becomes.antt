@@ -1,7 +1,7 @@
 -- How what a disk reads as changes, as a library, where the disk tells it.
-use Rattle.std.specs.Prelude.{◌≡◌, Option, Some}
+use Rattle.std.specs.Prelude.{◌≡◌, ◌⊎◌, ℕ, List, Option, Some}
 use Rattle.std.specs.Option.{ForSome}
-use Rattle.cm_disk.specs.Disk.{Files}
+use Rattle.cm_disk.specs.Disk.{File, Files, IsImage}
 use Rattle.cm_library.specs.State.{empty}
 use Rattle.cm_library.specs.Look.{Library, Missing, Opened, look}
 
@@ -16,3 +16,11 @@ Becomes old new library = ForSome old (λ files. (now : Files) × (new ≡ Some 
 -- there was no library, and now there is an empty one
 abbrev pub Makes : Option Files → Option Files → Type 0
 Makes old new = IsLibrary old Missing × Becomes old new (Opened empty)
+
+-- a stop leaves an empty library
+abbrev pub IsMade : Files → Type 0
+IsMade left = look left ≡ Opened empty
+
+-- a stop while a library is made leaves what it might have left before, no library, or an empty one
+abbrev pub IsMadeOrNot : (List ℕ → File → Type 0) → Files → Type 0
+IsMadeOrNot may_leave left = IsImage may_leave left ⊎ ((look left ≡ Missing) ⊎ IsMade left)

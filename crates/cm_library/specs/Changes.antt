@@ -1,7 +1,7 @@
 -- What the calls change on the disk.
-use Rattle.std.specs.Prelude.{◌≡◌, ◌≢◌, ◌⊎◌, ℕ, Bool, true, List, Option, Some, map, Contains, ◌++◌}
+use Rattle.std.specs.Prelude.{◌≡◌, ◌≢◌, ◌⊎◌, ℕ, Bool, true, List, Option, Some, slice_get, Contains}
 use Rattle.std.specs.Option.{ForSome}
-use Rattle.std.specs.List.{list_any, AllByRecursion, flat_map}
+use Rattle.std.specs.List.{list_any, AllByRecursion}
 use Rattle.std.specs.Str.{bytes_eq}
 use Rattle.sha2.specs.Sha256.{sha256}
 use Rattle.cm_disk.specs.Disk.{Files}
@@ -30,9 +30,9 @@ has_hash hash manifest = list_any (λ (entry : Entry). bytes_eq entry.hash.0 has
 abbrev pub is_named : List ℕ → State → Bool
 is_named hash state = list_any (λ (held : Held). has_hash hash held.manifest) state.versions
 
--- each file that a version names is as it was
+-- the place of each byte string whose hash a version names is as it was
 abbrev pub KeepsFiles : State → Files → Files → Type 0
-KeepsFiles state files now = (hash : List ℕ) → is_named hash state ≡ true → now (file_place hash) ≡ files (file_place hash)
+KeepsFiles state files now = (bytes : List ℕ) → is_named (sha256 bytes) state ≡ true → now (file_place (sha256 bytes)) ≡ files (file_place (sha256 bytes))
 
 -- the place of a file's hash has the bytes of a file of the tree with that hash
 pub record IsStored (tree : List File) (now : Files) (file : File) : Type 0 where
@@ -49,3 +49,8 @@ StoresTree state tree now = AllByRecursion (λ (file : File). (is_named (sha256 
 pub record AddsTree (state : State) (tree : List File) (files now : Files) : Type 0 where
   pub keeps : KeepsFiles state files now
   pub stores : StoresTree state tree now
+
+-- the files of these numbers are stored, and those of the versions are as they were
+pub record StoresPlan (state : State) (tree : List File) (plan : List ℕ) (files now : Files) : Type 0 where
+  pub keeps : KeepsFiles state files now
+  pub stored : AllByRecursion (λ (k : ℕ). (file : File) → slice_get tree k ≡ Some file → IsStored tree now file) plan

@@ -7,7 +7,7 @@ use Rattle.cm_disk.specs.Disk.{Files}
 use Rattle.cm_log.specs.declared.shelf.Shelf.TheVariants.{PkgLib}
 use Rattle.cm_log.specs.declared.shelf.Side.TheVariants.{First}
 use Rattle.cm_log.specs.Shelves.{log_place}
-use Rattle.cm_log.specs.Logs.{Entry as Record, Ending, Closed, Broken, Shelved, NoLog, Unread, Live, shelved}
+use Rattle.cm_log.specs.Logs.{Entry as Record, Ending, Closed, Broken, Reading, Shelved, NoLog, Unread, Live, shelved}
 use Rattle.cm_pkglib.specs.declared.change.Change.{Change}
 use Rattle.cm_pkglib.specs.declared.change.Change.TheVariants.{Opened as OpenedChange, Done, Dropped, Removed}
 use Rattle.cm_pkglib.specs.declared.row.PkgRow.{PkgRow}
@@ -83,12 +83,7 @@ state_of rows None jobs = None
 abbrev pub loaded : Files → Rows → Option State
 loaded files rows = state_of rows (all_held files rows.versions) (all_jobs files rows.jobs)
 
--- the state after records that end at a closed gate
-abbrev pub state_after : Files → List Record → Ending → Option State
-state_after files entries (Closed end) = option_and_then (λ rows. cond (has_room end rows) (loaded files rows) None) (rows_from (Some no_rows) entries)
-state_after files entries (Broken at) = None
-
--- the place that is named for all that is unreadable
+-- the place that is named where a record is refused, the closed gate leaves no room, or a stored manifest is wrong
 abbrev pub unreadable : Library
 unreadable = Unreadable (log_place PkgLib First) 0
 
@@ -96,11 +91,38 @@ abbrev pub opened_or : Option State → Library
 opened_or (Some state) = Opened state
 opened_or None = unreadable
 
+-- the library of these rows where their records end: with the stored manifests at a closed gate that leaves room
+abbrev pub ended_with : Files → List ℕ → Ending → Rows → Library
+ended_with files place (Closed end) rows = opened_or (cond (has_room end rows) (loaded files rows) None)
+ended_with files place (Broken at) rows = Unreadable place at
+
+abbrev pub ended_or : Files → List ℕ → Ending → Option Rows → Library
+ended_or files place ending None = unreadable
+ended_or files place ending (Some rows) = ended_with files place ending rows
+
+-- the library that further records of the log at a place make of rows; a record that the rows refuse comes before the end
+abbrev pub library_from : Files → List ℕ → Option Rows → Reading → Library
+library_from files place rows reading = ended_or files place reading.ending (rows_from rows reading.entries)
+
 abbrev pub look_at : Files → Shelved → Library
 look_at files NoLog = Missing
-look_at files (Unread place at) = unreadable
-look_at files (Live place reading) = opened_or (state_after files reading.entries reading.ending)
+look_at files (Unread place at) = Unreadable place at
+look_at files (Live place reading) = library_from files place (Some no_rows) reading
 
 -- what these files are
 abbrev pub look : Files → Library
 look files = look_at files (shelved PkgLib files)
+
+-- where the records end at a closed gate, its place
+abbrev pub closed_at : Ending → ℕ
+closed_at (Closed end) = end
+closed_at (Broken at) = 0
+
+abbrev pub gate_at : Shelved → ℕ
+gate_at NoLog = 0
+gate_at (Unread place at) = 0
+gate_at (Live place reading) = closed_at reading.ending
+
+-- the place of the closed gate of a library's log
+abbrev pub gate_in : Files → ℕ
+gate_in files = gate_at (shelved PkgLib files)

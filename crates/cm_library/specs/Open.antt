@@ -8,7 +8,7 @@ use Rattle.cm_log.specs.Settled.{shelf_of, end_of as log_end, is_settled, IsSett
 use Rattle.cm_library.specs.declared.library.Library.{Library}
 use Rattle.cm_library.specs.State.{State, rows_of}
 use Rattle.cm_library.specs.Look.{Opened, look, has_room}
-use Rattle.cm_library.specs.Sound.{IsSound}
+use Rattle.cm_library.specs.Sound.{IsSound, AreNamed}
 
 -- a library's disk, its state, and the place of its log's closed gate
 abbrev pub disk_of : {D : Type 0} → Library D → D
@@ -31,6 +31,7 @@ pub record IsReady (log : Log) (state : State) : Type 0 where
   pub shelf : shelf_of log ≡ PkgLib
   pub room : has_room (log_end log) (rows_of state) ≡ true
   pub sound : IsSound state
+  pub named : AreNamed (rows_of state)
 
 -- The library is in use: no append has failed, its log has room, and its state is that of its files, where the disk tells them.
 pub record IsOpen {D : Type 0} (reads : D → Option Files) (may_leave : D → List ℕ → File → Type 0) (library : Library D) : Type 0 where

@@ -12,7 +12,8 @@ pub enum OpenFault {
     Disk,
     /// There is no library.
     NoLibrary,
-    /// What is there is no library. At this stage all that is unreadable is named `PkgLib/log.0` at 0.
+    /// What is there is no library, at this place from this byte on. A record that is off the grammar or refused, a log
+    /// without room for the ends of its jobs and versions, and a stored manifest that is wrong are named `PkgLib/log.0` at 0.
     Unreadable { place: Place, at: u64 },
     /// There was no memory.
     Memory,

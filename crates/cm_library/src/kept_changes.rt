@@ -3,13 +3,14 @@ ghost use Rattle.std.specs.Prelude.{◌≡◌, ◌+◌, ◌^◌, ◌<◌, ◌≤
 ghost use Rattle.std.specs.Result.{result_err};
 ghost use Rattle.cm_pkglib.specs.declared.change.Change.TheVariants.{Done as done_change};
 ghost use Rattle.cm_pkglib.specs.Rows.{last_of, fault_of, opened_fault};
+ghost use Rattle.cm_pkglib.specs.Valid.{AreValid};
 ghost use Rattle.cm_library.specs.State.{Begun, Finished, changed, held_of, rows_of, version_rows, job_rows, count_in, entries_in};
 ghost use Rattle.cm_library.specs.Contents.{state_with, manifest_in_map, PutsManifest};
 
 use crate::kept::{Contents, Manifests};
 use crate::row::{JobRow, VersionRow};
 use crate::told::{jobs_told, manifest_bytes, put_finished, take_told, versions_told};
-use cm_base::{JobId, Memory, PackageId, Version};
+use cm_base::{Hash, JobId, Memory, PackageId, Version};
 use cm_pkglib::{Change, PkgRow, RowFault, Rows};
 use cm_tree::Manifest;
 use std::alloc::Global;
@@ -90,11 +91,41 @@ impl Contents {
         self.rows.entries()
     }
 
+    /// Its rows are valid, which is said here alone.
+    pub(crate) fn tells_valid(&self)
+        ensures { AreValid (rows_of self.now) }
+    {
+        let _rising = self.rows.versions();
+    }
+
     /// Why a change is refused.
     pub(crate) fn check(&self, change: &Change) -> Result<(), RowFault>
         ensures { result_err result ≡ fault_of (rows_of self.now) change.now }
     {
         self.rows.check(change)
+    }
+
+    /// Why no job may begin for a version with so many entries.
+    pub(crate) fn begin_fault(
+        &self,
+        id: PackageId,
+        version: Version,
+        entries: u32,
+    ) -> Option<RowFault>
+        ensures { result ≡ opened_fault (rows_of self.now) self.now.next id version entries }
+    {
+        let change = Change::Opened {
+            job: self.next(),
+            package: id,
+            version,
+            entries,
+            size: 0,
+            hash: Hash([0; 32]),
+        };
+        match self.check(&change) {
+            Ok(()) => None,
+            Err(fault) => Some(fault),
+        }
     }
 
     /// A job begins for a version with a manifest. After want of memory nothing has changed.

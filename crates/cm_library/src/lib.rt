@@ -1,7 +1,10 @@
 //! The library of one server: the versions of packages, each with its manifest and its files, on a disk.
 #![tactic(auto)]
 
+mod adding;
+mod commits;
 mod fault;
+mod jobs;
 mod kept;
 mod kept_changes;
 mod library;
@@ -10,8 +13,10 @@ mod making;
 mod manifests;
 mod opening;
 mod places;
+mod planning;
 mod records;
 mod row;
+mod storing;
 mod telling;
 mod told;
 mod whole_file;
@@ -19,6 +24,7 @@ mod whole_trees;
 mod worked;
 
 pub use cm_log::CreateFault;
+pub use cm_tree as tree;
 pub use fault::{LibFault, OpenFault};
 pub use library::Library;
 pub use row::{JobRow, VersionRow};

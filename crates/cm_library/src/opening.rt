@@ -2,16 +2,16 @@
 ghost use Rattle.std.specs.Prelude.{◌≡◌, ◌≤◌, ℕ, List, IfOk, IfErr, IsErrOf};
 ghost use Rattle.std.specs.Option.{ForSome};
 ghost use Rattle.cm_base.specs.Causes.{Rose};
-ghost use Rattle.cm_library.specs.Look.{Missing, Unreadable, look, has_room};
-ghost use Rattle.cm_library.specs.Open.{disk_of, StandsIn, IsOpen, IsReady};
+ghost use Rattle.cm_library.specs.Look.{Missing, Unreadable, look, gate_in, has_room};
+ghost use Rattle.cm_library.specs.Open.{disk_of, end_of, StandsIn, IsOpen, IsReady};
 
 use crate::fault::OpenFault;
 use crate::kept::Contents;
 use crate::library::Library;
 use crate::loading::load_all;
-use crate::records::{read_rows, unreadable};
+use crate::records::{of_log, read_rows, unreadable};
 use cm_disk::Disk;
-use cm_log::{Log, LogFault, LogReader, Shelf};
+use cm_log::{Log, LogReader, Shelf};
 use cm_pkglib::Rows;
 use std::alloc::Global;
 
@@ -39,9 +39,7 @@ fn read_library<D: Disk>(alloc: Global, disk: &mut D) -> Result<(Log, Contents),
 {
     let mut reader = match LogReader::open(disk, Shelf::PkgLib) {
         Ok(reader) => reader,
-        Err(LogFault::Disk) => return Err(OpenFault::Disk),
-        Err(LogFault::NoLibrary) => return Err(OpenFault::NoLibrary),
-        Err(LogFault::Unreadable { place: _, at: _ }) => return Err(unreadable()),
+        Err(fault) => return Err(of_log(fault)),
     };
     let rows = match read_rows(alloc, disk, &mut reader) {
         Ok(rows) => rows,
@@ -70,6 +68,8 @@ impl<D: Disk> Library<D> {
         ensures missing { IfErr result (λ refused. refused.1 ≡ OpenFault.NoLibrary → ForSome (D.reads disk) (λ files. look files ≡ Missing)) }
         ensures unreadable { IfErr result (λ refused. (place : List ℕ) (at : ℕ) → refused.1 ≡ OpenFault.Unreadable place at → ForSome (D.reads disk) (λ files. look files ≡ Unreadable place at)) }
         ensures cause { IfErr result (λ refused. refused.1 ≡ OpenFault.Disk → Rose (D.faults disk) (D.faults refused.0)) }
+        // The log ends where it ends on the disk.
+        ensures gate { IfOk result (λ library. ForSome (D.reads disk) (λ files. gate_in files ≡ end_of library)) }
         // The disk reads as before, and is given back after a fault.
         ensures same { IfOk result (λ library. D.reads (disk_of library) ≡ D.reads disk) }
         ensures given_back { IfErr result (λ refused. D.reads refused.0 ≡ D.reads disk) }

@@ -6,11 +6,12 @@ ghost use Rattle.cm_disk.specs.Disk.{File, Files, LeavesNoMore};
 ghost use Rattle.cm_log.specs.declared.shelf.Shelf.TheVariants.{PkgLib};
 ghost use Rattle.cm_log.specs.declared.shelf.Side.TheVariants.{First};
 ghost use Rattle.cm_log.specs.Shelves.{log_place};
-ghost use Rattle.cm_log.specs.Settled.{reader_shelf, has_ended, rest_of, IsReading};
+ghost use Rattle.cm_log.specs.Settled.{reader_shelf, reader_place, has_ended, rest_of, IsReading};
 ghost use Rattle.cm_pkglib.specs.Rows.{no_rows, fault_of, after};
-ghost use Rattle.cm_library.specs.Sound.{AreSound};
-ghost use Rattle.cm_library.specs.Look.{known};
-ghost use Rattle.cm_library.specs.Replay.{rows_after_body, state_from};
+ghost use Rattle.cm_library.specs.Sound.{AreFit, NamesVersion};
+ghost use Rattle.cm_library.specs.Look.{Unreadable, known, library_from};
+ghost use Rattle.cm_library.specs.Faults.{of_log_fault};
+ghost use Rattle.cm_library.specs.Replay.{rows_after_body};
 
 use crate::fault::OpenFault;
 use cm_base::Place;
@@ -34,9 +35,10 @@ fn is_known(change: &Change) -> bool
 
 // Makes a change that the rows take.
 fn apply_change(rows: &mut Rows, change: &Change) -> Result<(), OpenFault>
-    requires sound { AreSound rows.old }
+    requires fit { AreFit rows.old }
+    requires names { NamesVersion change.now }
     requires free { fault_of rows.old change.now ≡ None }
-    ensures sound { AreSound rows.new }
+    ensures fit { AreFit rows.new }
     ensures ok { OnOk result (rows.new ≡ after change.now rows.old) }
     ensures fault { IfErr result (λ fault. fault ≡ OpenFault.Memory) }
 {
@@ -50,8 +52,8 @@ fn apply_change(rows: &mut Rows, change: &Change) -> Result<(), OpenFault>
 
 // Makes the change that a record says. False where it says none, or the rows refuse it.
 fn take_body(rows: &mut Rows, body: &[u8]) -> Result<bool, OpenFault>
-    requires { AreSound rows.old }
-    ensures sound { AreSound rows.new }
+    requires { AreFit rows.old }
+    ensures fit { AreFit rows.new }
     ensures taken { result ≡ Ok true → rows_after_body body.now rows.old ≡ Some rows.new }
     ensures refused { result ≡ Ok false → rows_after_body body.now rows.old ≡ None }
     ensures fault { IfErr result (λ fault. fault ≡ OpenFault.Memory) }
@@ -71,13 +73,24 @@ fn take_body(rows: &mut Rows, body: &[u8]) -> Result<bool, OpenFault>
     Ok(true)
 }
 
-/// What stands for all that is unreadable.
+/// What stands for a record that is refused, for a log without room, and for a stored manifest that is wrong.
 pub(crate) fn unreadable() -> OpenFault
     ensures { result ≡ OpenFault.Unreadable (log_place PkgLib First) 0 }
 {
     match Place::read(b"PkgLib/log.0") {
         Some(place) => OpenFault::Unreadable { place, at: 0 },
         None => unreachable!(),
+    }
+}
+
+/// Why a library is not opened whose log is not read.
+pub(crate) fn of_log(fault: LogFault) -> OpenFault
+    ensures { result ≡ of_log_fault fault }
+{
+    match fault {
+        LogFault::Disk => OpenFault::Disk,
+        LogFault::NoLibrary => OpenFault::NoLibrary,
+        LogFault::Unreadable { place, at } => OpenFault::Unreadable { place, at },
     }
 }
 
@@ -89,14 +102,15 @@ fn take_record<D: Disk>(
     rows: &mut Rows,
 ) -> Result<bool, OpenFault>
     requires reading { ForSome (D.reads disk.old) (λ files. IsReading files (D.may_leave disk.old) reader.old) }
-    requires sound { AreSound rows.old }
+    requires fit { AreFit rows.old }
     ensures reading { ForSome (D.reads disk.new) (λ files. IsReading files (D.may_leave disk.new) reader.new) }
-    ensures sound { AreSound rows.new }
-    ensures goes_on { OnOk result (ForSome (D.reads disk.old) (λ files. state_from files (Some rows.old) (rest_of files reader.old) ≡ state_from files (Some rows.new) (rest_of files reader.new))) }
+    ensures fit { AreFit rows.new }
+    ensures goes_on { OnOk result (ForSome (D.reads disk.old) (λ files. library_from files (reader_place reader.old) (Some rows.old) (rest_of files reader.old) ≡ library_from files (reader_place reader.old) (Some rows.new) (rest_of files reader.new))) }
     ensures ended { result ≡ Ok false → has_ended reader.new ≡ true }
-    ensures unreadable { (place : List ℕ) (at : ℕ) → IsErrOf result (OpenFault.Unreadable place at) → (place ≡ log_place PkgLib First) × (at ≡ 0) × ForSome (D.reads disk.old) (λ files. state_from files (Some rows.old) (rest_of files reader.old) ≡ None) }
+    ensures unreadable { (place : List ℕ) (at : ℕ) → IsErrOf result (OpenFault.Unreadable place at) → ForSome (D.reads disk.old) (λ files. library_from files (reader_place reader.old) (Some rows.old) (rest_of files reader.old) ≡ Unreadable place at) }
     ensures library { IsErrOf result OpenFault.NoLibrary → ⊥ }
     ensures shelf { reader_shelf reader.new ≡ reader_shelf reader.old }
+    ensures place { reader_place reader.new ≡ reader_place reader.old }
     ensures same { D.reads disk.new ≡ D.reads disk.old }
     ensures stop { LeavesNoMore (D.may_leave disk.old) (D.may_leave disk.new) }
     ensures later { D.faults disk.old ≤ D.faults disk.new }
@@ -109,13 +123,12 @@ fn take_record<D: Disk>(
             Err(_) => Err(OpenFault::Memory),
         },
         Ok(None) => Ok(false),
-        Err(LogFault::Disk) => Err(OpenFault::Disk),
-        Err(LogFault::Unreadable { place: _, at: _ }) => Err(unreadable()),
-        Err(LogFault::NoLibrary) => unreachable!(),
+        Err(fault) => Err(of_log(fault)),
     }
 }
 
-/// The rows that all records make. `Unreadable` where a record is cut short, off the grammar, or refused by the rows.
+/// The rows that all records make. `Unreadable` where the log ends inside a record, or a record is off the grammar or refused
+/// by the rows, whichever comes first.
 pub(crate) fn read_rows<D: Disk>(
     alloc: Global,
     disk: &mut D,
@@ -123,12 +136,13 @@ pub(crate) fn read_rows<D: Disk>(
 ) -> Result<Rows, OpenFault>
     requires { ForSome (D.reads disk.old) (λ files. IsReading files (D.may_leave disk.old) reader.old) }
     ensures reading { ForSome (D.reads disk.new) (λ files. IsReading files (D.may_leave disk.new) reader.new) }
-    ensures sound { IfOk result (λ rows. AreSound rows) }
-    ensures rows { IfOk result (λ rows. ForSome (D.reads disk.old) (λ files. state_from files (Some no_rows) (rest_of files reader.old) ≡ state_from files (Some rows) (rest_of files reader.new))) }
+    ensures fit { IfOk result (λ rows. AreFit rows) }
+    ensures rows { IfOk result (λ rows. ForSome (D.reads disk.old) (λ files. library_from files (reader_place reader.old) (Some no_rows) (rest_of files reader.old) ≡ library_from files (reader_place reader.old) (Some rows) (rest_of files reader.new))) }
     ensures ended { OnOk result (has_ended reader.new ≡ true) }
-    ensures unreadable { (place : List ℕ) (at : ℕ) → IsErrOf result (OpenFault.Unreadable place at) → (place ≡ log_place PkgLib First) × (at ≡ 0) × ForSome (D.reads disk.old) (λ files. state_from files (Some no_rows) (rest_of files reader.old) ≡ None) }
+    ensures unreadable { (place : List ℕ) (at : ℕ) → IsErrOf result (OpenFault.Unreadable place at) → ForSome (D.reads disk.old) (λ files. library_from files (reader_place reader.old) (Some no_rows) (rest_of files reader.old) ≡ Unreadable place at) }
     ensures library { IsErrOf result OpenFault.NoLibrary → ⊥ }
     ensures shelf { reader_shelf reader.new ≡ reader_shelf reader.old }
+    ensures place { reader_place reader.new ≡ reader_place reader.old }
     ensures same { D.reads disk.new ≡ D.reads disk.old }
     ensures stop { LeavesNoMore (D.may_leave disk.old) (D.may_leave disk.new) }
     ensures later { D.faults disk.old ≤ D.faults disk.new }

@@ -1,29 +1,42 @@
-use Rattle.std.proofs.Common.{◌≡◌, ℕ, Bool, true, false, Err, sym, ◌∙◌, ap, subst}
-use Rattle.std.specs.Prelude.{Result}
+use Rattle.std.proofs.Common.{◌≡◌, ℕ, Bool, true, false, List, Err, sym, ◌∙◌, ap, subst}
+use Rattle.std.specs.Prelude.{Result, IsErrOf}
+use Rattle.cm_log.specs.declared.state.Log.{Log}
+use Rattle.cm_log.specs.declared.position.LogReader.{LogReader}
+use Rattle.cm_log.specs.declared.faults.LogFault.{LogFault}
+use Rattle.cm_library.specs.declared.kept.Contents.{Contents}
+use Rattle.cm_library.specs.declared.fault.OpenFault.{OpenFault}
+use Rattle.cm_library.specs.declared.fault.OpenFault.TheVariants.{Unreadable}
 use Rattle.cm_log.specs.declared.shelf.Shelf.TheVariants.{PkgLib}
 use Rattle.cm_log.specs.Settled.{end_of}
 use Rattle.cm_log.proofs.Done.{settled_when_done}
 use Rattle.cm_pkglib.specs.Rows.{Rows}
 use Rattle.cm_library.specs.State.{State, rows_of}
-use Rattle.cm_library.specs.Look.{has_room}
-use Rattle.cm_library.specs.Sound.{AreSound}
+use Rattle.cm_library.specs.Look.{Unreadable as UnreadableLibrary, has_room, look}
+use Rattle.cm_library.specs.Sound.{AreFit}
 use Rattle.cm_library.specs.Contents.{manifest_in_map, state_with}
 use Rattle.cm_library.proofs.Keeping.{rows_back}
 use Rattle.cm_library.proofs.Standing.{settled_kept}
-use Rattle.cm_library.proofs.Opens.{look_closed, look_unread, named, no_room, none_loaded, all_loaded}
+use Rattle.cm_library.proofs.Naming.{err_is, log_named, named}
+use Rattle.cm_library.proofs.Opens.{look_broken, look_closed, look_unread, no_room, none_loaded, all_loaded}
 use Rattle.cm_library.proofs.opening.read_library.Goals as goal
 
-pub returns-in-Err-Unreadable-clause-unreadable : goal.returns-in-Err-Unreadable-clause-unreadable
-returns-in-Err-Unreadable-clause-unreadable g c place at is x told =
-    named c.unreadable.result place at c.unreadable.ensures is x
-    (look_unread x c.in-Err-Unreadable.field-0-0 c.in-Err-Unreadable.field-0-1 (c.in-Err-Unreadable.ensures.unreadable c.in-Err-Unreadable.field-0-0 c.in-Err-Unreadable.field-0-1 (rw c.in-Err-Unreadable.field-0-is) x told))
+pub returns-in-Err-clause-unreadable : goal.returns-in-Err-clause-unreadable
+returns-in-Err-clause-unreadable g c place at is x told =
+    let fault = log_named {T = Log × Contents} c.in-Err.fault place at (subst (λ (e : OpenFault). IsErrOf {T = Log × Contents} (Err e) (Unreadable place at)) c.of_log.ensures is) in
+    look_unread x place at (c.in-Err.ensures.unreadable place at (ap (λ (f : LogFault). let r : Result LogReader LogFault = Err f in r) fault) x told)
+
+pub returns-in-Err-read_rows-clause-unreadable : goal.returns-in-Err-read_rows-clause-unreadable
+returns-in-Err-read_rows-clause-unreadable g c place at is x told =
+    let fault = err_is {T = Log × Contents} c.in-Err-read_rows.fault (Unreadable place at) is in
+    look_broken x c.in-Ok.reader (UnreadableLibrary place at) (c.in-Ok.ensures.live x told)
+    (c.in-Err-read_rows.ensures.unreadable place at (ap (λ (f : OpenFault). let r : Result Rows OpenFault = Err f in r) fault) x (c.open.ensures.same ∙ told))
 
 pub returns-then-not-leaves_room-clause-unreadable : goal.returns-then-not-leaves_room-clause-unreadable
 returns-then-not-leaves_room-clause-unreadable g c place at is x told =
     let d = g.D.Disk in
     let rows = c.in-Ok-read_rows.rows in
     let t = c.open.ensures.same ∙ told in
-    named c.unreadable-then-not-leaves_room.result place at c.unreadable-then-not-leaves_room.ensures is x
+    named {T = _} c.unreadable.result place at (look x) c.unreadable.ensures is
     (no_room x c.end.result rows (sym c.leaves_room.ensures ∙ c.if-not-leaves_room.true)
     (look_closed x (d.may_leave c.read_rows.new.disk) c.in-Ok.reader c.read_rows.new.reader rows c.end.result (c.in-Ok.ensures.live x told) (c.in-Ok-read_rows.ensures.rows x t) (c.read_rows.ensures.reading x (c.read_rows.ensures.same ∙ t)) c.in-Ok-read_rows.ensures.ended (c.end.ensures ∙ c.done-log.ensures.end)))
 
@@ -32,7 +45,7 @@ returns-in-Ok-None-clause-unreadable g c place at is x told =
     let d = g.D.Disk in
     let rows = c.in-Ok-read_rows.rows in
     let t = c.open.ensures.same ∙ told in
-    named c.unreadable-in-Ok-None.result place at c.unreadable-in-Ok-None.ensures is x
+    named {T = _} c.unreadable-in-Ok-None.result place at (look x) c.unreadable-in-Ok-None.ensures is
     (none_loaded x c.end.result rows ((rw c.in-Ok-None.field-0-is at c.in-Ok-None.ensures.loads) x (c.read_rows.ensures.same ∙ t))
     (look_closed x (d.may_leave c.read_rows.new.disk) c.in-Ok.reader c.read_rows.new.reader rows c.end.result (c.in-Ok.ensures.live x told) (c.in-Ok-read_rows.ensures.rows x t) (c.read_rows.ensures.reading x (c.read_rows.ensures.same ∙ t)) c.in-Ok-read_rows.ensures.ended (c.end.ensures ∙ c.done-log.ensures.end)))
 
@@ -44,7 +57,8 @@ returns-in-Ok-of-clause-ready g c =
       idle = c.done-log.ensures.idle;
       shelf = c.done-log.ensures.shelf ∙ c.read_rows.ensures.shelf ∙ c.in-Ok.ensures.shelf;
       room = ap (λ (r : Rows). has_room (end_of c.done-log.result) r) back ∙ ap (λ (n : ℕ). has_room n rows) (sym c.end.ensures) ∙ sym c.leaves_room.ensures ∙ c.if-not-leaves_room.false;
-      sound = subst AreSound (sym back) c.in-Ok-read_rows.ensures.sound;
+      sound = (subst AreFit (sym back) c.in-Ok-read_rows.ensures.fit).sound;
+      named = (subst AreFit (sym back) c.in-Ok-read_rows.ensures.fit).named;
     }
 
 pub returns-in-Ok-of-clause-stands : goal.returns-in-Ok-of-clause-stands

@@ -1,18 +1,19 @@
 use Rattle.std.proofs.Common.{◌≡◌, ◌≤◌, Some}
 use Rattle.std.specs.Option.{ForSome}
 use Rattle.cm_disk.specs.Disk.{LeavesNoMore}
-use Rattle.cm_log.specs.Settled.{reader_shelf, rest_of, IsReading}
+use Rattle.cm_log.specs.Settled.{reader_shelf, reader_place, rest_of, IsReading}
 use Rattle.cm_pkglib.specs.Rows.{no_rows}
-use Rattle.cm_library.specs.Sound.{AreSound}
-use Rattle.cm_library.specs.Replay.{state_from}
+use Rattle.cm_library.specs.Sound.{AreFit}
+use Rattle.cm_library.specs.Look.{library_from}
 use Rattle.cm_library.proofs.records.read_rows.Given as goal
 
 abbrev pub invariant-loop-record : goal.invariant-loop-record
 invariant-loop-record g l = record {
   reading : ForSome (g.D.Disk.reads l.disk) (λ files. IsReading files (g.D.Disk.may_leave l.disk) l.reader);
-  sound : AreSound l.rows;
-  goes_on : ForSome (g.D.Disk.reads l.fn.disk) (λ files. state_from files (Some no_rows) (rest_of files l.fn.reader) ≡ state_from files (Some l.rows) (rest_of files l.reader));
+  fit : AreFit l.rows;
+  goes_on : ForSome (g.D.Disk.reads l.fn.disk) (λ files. library_from files (reader_place l.fn.reader) (Some no_rows) (rest_of files l.fn.reader) ≡ library_from files (reader_place l.fn.reader) (Some l.rows) (rest_of files l.reader));
   shelf : reader_shelf l.reader ≡ reader_shelf l.fn.reader;
+  place : reader_place l.reader ≡ reader_place l.fn.reader;
   same : g.D.Disk.reads l.disk ≡ g.D.Disk.reads l.fn.disk;
   stop : LeavesNoMore (g.D.Disk.may_leave l.fn.disk) (g.D.Disk.may_leave l.disk);
   later : g.D.Disk.faults l.fn.disk ≤ g.D.Disk.faults l.disk;

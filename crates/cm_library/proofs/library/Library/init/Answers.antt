@@ -1,10 +1,13 @@
-use Rattle.std.proofs.Common.{◌≡◌, OnOk, Result, Ok, Err, Option, Some}
+use Rattle.std.proofs.Common.{◌≡◌, ◌⊎◌, ℕ, List, OnOk, Result, Ok, Err, Option, Some, inl, inr, sym, ◌∙◌}
 use Rattle.std.specs.Option.{ForSome}
-use Rattle.cm_disk.specs.Disk.{Files}
+use Rattle.cm_disk.specs.Disk.{File, Files, IsImage, LeavesOnly}
 use Rattle.cm_log.specs.declared.faults.CreateFault.{CreateFault}
 use Rattle.cm_log.specs.declared.shelf.Shelf.TheVariants.{PkgLib}
-use Rattle.cm_log.specs.Settled.{Makes as MakesLog}
-use Rattle.cm_library.specs.Becomes.{Makes}
+use Rattle.cm_log.specs.Settled.{Makes as MakesLog, Rests, IsMaking}
+use Rattle.cm_log.specs.Shelves.{ready_place, log_place}
+use Rattle.cm_log.specs.declared.shelf.Side.{Side}
+use Rattle.cm_log.proofs.Shelveds.{alike}
+use Rattle.cm_library.specs.Becomes.{Makes, IsMade, IsMadeOrNot}
 use Rattle.cm_library.proofs.Looks.{missing, not_missing, opens_empty}
 use Rattle.cm_library.proofs.library.Library.init.Goals as goal
 
@@ -20,3 +23,33 @@ returns-clause-made g c = made _ _ c.create.result c.create.ensures.made
 
 pub returns-clause-there : goal.returns-clause-there
 returns-clause-there g c = λ is files told. not_missing files (c.create.ensures.there is files told)
+
+-- the library is durable
+durable : (old new : Option Files) (may_leave : List ℕ → File → Type 0) (result : Result (Unit {0}) CreateFault) → OnOk result (ForSome old (λ files. (now : Files) × (new ≡ Some now) × MakesLog PkgLib files now))
+    → OnOk result (ForSome new (λ files. Rests PkgLib files may_leave)) → OnOk result (ForSome old (λ files. (left : Files) → IsImage may_leave left → IsMade left))
+durable old new may_leave (Err fault) log rests = tt
+durable old new may_leave (Ok done) log rests = λ files told left image.
+    let makes = log files told in
+    let rest = rests makes.0 makes.1 in
+    opens_empty left
+    (alike PkgLib makes.0 left (rest.ready (left (ready_place PkgLib)) (image (ready_place PkgLib))) (λ (side : Side). rest.logs side (left (log_place PkgLib side)) (image (log_place PkgLib side))) ∙ makes.2.made)
+
+pub returns-clause-durable : goal.returns-clause-durable
+returns-clause-durable g c = durable _ _ (g.D.Disk.may_leave c.create.new.disk) c.create.result c.create.ensures.made c.create.ensures.rests
+
+-- what a stop leaves while the log is made, as a library
+as_library : (may_leave : List ℕ → File → Type 0) (left : Files) → IsMaking PkgLib may_leave left → IsMadeOrNot may_leave left
+as_library may_leave left making = elim making.log [
+  | inl image ↦ inl image
+  | inr log ↦ elim log [ inl none ↦ inr (inl (missing left none)) | inr fresh ↦ inr (inr (opens_empty left fresh)) ]
+]
+
+pub returns-clause-any_moment : goal.returns-clause-any_moment
+returns-clause-any_moment g c = λ files told.
+    let may_leave = g.D.Disk.may_leave c.args.disk.now in
+    let made = c.create.ensures.any_moment files told in
+    record {
+      later = made.later;
+      each = λ left since. as_library may_leave left (made.each left since);
+      before = λ t left early since. elim (made.before t left early since) [ inl past ↦ inl past | inr making ↦ inr (as_library may_leave left making) ];
+    }

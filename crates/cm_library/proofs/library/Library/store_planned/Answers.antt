@@ -1,0 +1,31 @@
+use Rattle.std.proofs.Common.{◌≡◌, ℕ, List, get_or, sym, ◌∙◌, ap, subst, arith}
+use Rattle.std.specs.List.{AllByRecursion}
+use Rattle.cm_base.specs.declared.hash.Hash.{Hash}
+use Rattle.cm_tree.specs.declared.entry.Entry.{Entry}
+use Rattle.cm_tree.specs.GatheredFiles.{files_of}
+use Rattle.cm_library.specs.Changes.{is_named}
+use Rattle.cm_library.specs.Plans.{IsFresh}
+use Rattle.cm_library.proofs.StoredTree.{to_store, at_number, plan_step, get_any}
+use Rattle.cm_library.proofs.library.Library.store_planned.Goals as goal
+
+pub loop-at-preserved : goal.loop-at-preserved
+loop-at-preserved g c =
+    let v = c.loop-at.invariant in
+    let s = c.args.self.now.contents in
+    let tree = files_of c.args.files.now in
+    let plan = c.args.plan.now in
+    let i = c.loop-at.at-index in
+    let k = get_or plan i 0 in
+    let is = get_any plan i 0 k c.loop-at-test.true in
+    let fresh = subst (λ (es : List Entry). AllByRecursion (IsFresh (λ (q : Hash). is_named q.0 s) es) plan) c.requires.entries c.requires.fresh in
+    let t = to_store s tree k (at_number _ plan i k c.loop-at-test.true is fresh) in
+    record {
+      is_open = c.in_ok-store_one.ensures.open;
+      state = c.store_one.ensures.state ∙ v.state;
+      end = c.store_one.ensures.end ∙ v.end;
+      stored = λ x told.
+          let m = v.stored x told in
+          let n = c.in_ok-store_one.ensures.stored t.file t.at m.0 m.1 in
+          (n.0, n.1, plan_step s tree plan i k x m.0 n.0 c.loop-at-test.true is t n.2 m.2);
+      later = omega (arith, v.later, c.store_one.ensures.cause.later);
+    }
