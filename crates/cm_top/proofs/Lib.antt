@@ -1,3 +1,5 @@
+pub mod AddLemmas
+pub mod Effects
 pub mod InitLemmas
 pub mod Meets
 pub mod OneBay

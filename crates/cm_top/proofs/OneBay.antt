@@ -5,9 +5,8 @@ use Rattle.std.proofs.lemmas.Slice.Eq.{bytes_eq-Decides}
 use Rattle.cm_base.specs.Causes.{Rose}
 use Rattle.cm_disk.specs.Disk.{Files}
 use Rattle.cm_library.specs.Look.{Library}
-use Rattle.cm_tree.specs.Trees.{File}
 use Rattle.cm_top.specs.Bays.{Seen, seen, seen_bay, seen_disk, names_of, reads_of, faults_of, SameBut, site, IsSiteAlone}
-use Rattle.cm_top.specs.Machine.{Step}
+use Rattle.cm_top.specs.Machine.{Given, Step}
 use Rattle.cm_top.specs.Runs.{Sourced, Steps, EndsOn, EndsBy}
 use Rattle.cm_top.specs.declared.reply.Reply.{Reply}
 use Rattle.cm_top.specs.declared.reply.Reply.TheVariants.{Disk, Memory, Source}
@@ -36,7 +35,7 @@ rose_here bay old new a b is rose =
     (subst (λ (n : ℕ). Rose n (if bytes_eq site new.name then new.faults else 0)) (sym (faults_here old.name old.faults a))
     (subst (λ (n : ℕ). Rose old.faults n) (sym (faults_here new.name new.faults b)) rose))
 
-pub ends_alone : (step : List File → Library → Step) (from to : Sourced) (old new : Seen) (reply : Reply) → old.name ≡ site → new.name ≡ site
+pub ends_alone : (step : Given → Library → Step) (from to : Sourced) (old new : Seen) (reply : Reply) → old.name ≡ site → new.name ≡ site
     → EndsOn step from to old new reply → EndsBy step from to (old ∷ []) (new ∷ []) reply
 ends_alone step from to old new (Disk bay) a b ends = rose_here bay old new a b ends.0 ends.1
 ends_alone step from to old new Memory a b ends = tt
@@ -52,7 +51,7 @@ module _ {D : Type 0} (reads : D → Option Files) (faults : D → ℕ) where
   site_named (bay ∷ []) old alone at = ap (λ (b : Bay D). b.name) at ∙ alone
   site_named (bay ∷ next ∷ bays) old alone at = absurd alone
 
-  pub ends_first : (step : List File → Library → Step) (from to : Sourced) (bays : List (Bay D)) (old new : Bay D) (reply : Reply) → IsSiteAlone (seen reads faults bays)
+  pub ends_first : (step : Given → Library → Step) (from to : Sourced) (bays : List (Bay D)) (old new : Bay D) (reply : Reply) → IsSiteAlone (seen reads faults bays)
       → old ≡ slice_index_or bays 0 old → new.name ≡ old.name → EndsOn step from to (seen_bay reads faults old) (seen_bay reads faults new) reply
       → EndsBy step from to (seen reads faults bays) (seen reads faults (slice_set bays 0 new)) reply
   ends_first step from to [] old new reply alone at same ends = absurd alone
@@ -88,7 +87,7 @@ pub same_all : (name : List ℕ) (bays : List Seen) → SameBut name bays bays
 same_all name bays = record { names = refl; others = λ q ne. refl }
 
 -- a bay that was taken out, worked on, and put back under its name
-pub ends_taken : {D : Type 0} (reads : D → Option Files) (faults : D → ℕ) (step : List File → Library → Step) (from to : Sourced) (olds news : List (Bay D)) (name : List ℕ) (old new : D) (reply : Reply) → name ≡ site
+pub ends_taken : {D : Type 0} (reads : D → Option Files) (faults : D → ℕ) (step : Given → Library → Step) (from to : Sourced) (olds news : List (Bay D)) (name : List ℕ) (old new : D) (reply : Reply) → name ≡ site
     → olds ≡ record { name = name; disk = old } ∷ [] → news ≡ record { name = name; disk = new } ∷ [] → EndsOn step from to (seen_disk reads faults old) (seen_disk reads faults new) reply
     → EndsBy step from to (seen reads faults olds) (seen reads faults news) reply
 ends_taken {D} reads faults step from to olds news name old new reply named before after ends =

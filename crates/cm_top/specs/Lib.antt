@@ -5,3 +5,4 @@ pub mod Openings
 pub mod Runs
 pub mod Texts
 pub mod Words
+pub mod Worlds

@@ -1,12 +1,27 @@
--- Why a library is not opened, as a reply.
+-- Why a library is not opened, or takes no new package, as a reply.
 use Rattle.std.specs.Prelude.{ℕ, List}
 use Rattle.cm_library.specs.declared.fault.OpenFault.{OpenFault}
 use Rattle.cm_library.specs.declared.fault.OpenFault.TheVariants.{Disk as DiskFault, NoLibrary as NoneThere, Unreadable as NotRead, Memory as NoMemory}
+use Rattle.cm_library.specs.declared.fault.LibFault.{LibFault}
+use Rattle.cm_library.specs.declared.fault.LibFault.TheVariants.{NoJob, VersionThere, JobThere, TooManyVersions, TooManyEntries, TooManyJobs, Spent, Memory as LibMemory, Disk as LibDisk}
+use Rattle.cm_top.specs.declared.reply.Refusal.TheVariants.{TooManyVersions as ManyVersions, TooManyEntries as ManyEntries, Spent as NoneLeft}
 use Rattle.cm_top.specs.declared.reply.Reply.{Reply}
-use Rattle.cm_top.specs.declared.reply.Reply.TheVariants.{Disk, Memory, NoLibrary, Unreadable}
+use Rattle.cm_top.specs.declared.reply.Reply.TheVariants.{Refused, Disk, Memory, NoLibrary, Unreadable}
 
 abbrev pub reply_of : List ℕ → OpenFault → Reply
 reply_of bay DiskFault = Disk bay
 reply_of bay NoneThere = NoLibrary bay
 reply_of bay (NotRead place at) = Unreadable bay place at
 reply_of bay NoMemory = Memory
+
+-- a package that was never opened meets none of the first four causes: no library is so full of jobs, and none has the version
+abbrev pub reply_to_add : List ℕ → LibFault → Reply
+reply_to_add bay NoJob = Memory
+reply_to_add bay VersionThere = Memory
+reply_to_add bay (JobThere job) = Memory
+reply_to_add bay TooManyJobs = Memory
+reply_to_add bay TooManyVersions = Refused ManyVersions
+reply_to_add bay TooManyEntries = Refused ManyEntries
+reply_to_add bay Spent = Refused NoneLeft
+reply_to_add bay LibMemory = Memory
+reply_to_add bay LibDisk = Disk bay

@@ -7,7 +7,7 @@ use Rattle.cm_library.specs.declared.row.JobRow.{JobRow}
 use Rattle.cm_top.specs.declared.fault.WordsFault.{WordsFault}
 use Rattle.cm_top.specs.declared.fault.WordsFault.TheVariants.{NoCommand, UnknownCommand, BadValue, MissingWord, ExtraWord, Memory as NoMemory}
 use Rattle.cm_top.specs.declared.reply.Refusal.{Refusal}
-use Rattle.cm_top.specs.declared.reply.Refusal.TheVariants.{PackageThere, TooManyVersions, TooManyEntries, NoBay, BadPath, SamePath, TooManyFiles, FileTooLong}
+use Rattle.cm_top.specs.declared.reply.Refusal.TheVariants.{PackageThere, TooManyVersions, TooManyEntries, NoBay, BadPath, SamePath, TooManyFiles, FileTooLong, Spent}
 use Rattle.cm_top.specs.declared.reply.Reply.{Reply}
 use Rattle.cm_top.specs.declared.reply.Reply.TheVariants.{Made, Added, Versions, Refused, Source, Disk, Memory, NoLibrary, Unreadable}
 use Rattle.cm_top.specs.declared.reply.Ended.{Ended}
@@ -42,6 +42,7 @@ refusal_words (BadPath entry) = codes "19" ∷ codes "BadPath" ∷ decimal entry
 refusal_words (SamePath entry) = codes "20" ∷ codes "SamePath" ∷ decimal entry ∷ []
 refusal_words TooManyFiles = codes "21" ∷ codes "TooManyFiles" ∷ []
 refusal_words (FileTooLong entry) = codes "22" ∷ codes "FileTooLong" ∷ decimal entry ∷ []
+refusal_words Spent = codes "30" ∷ codes "Spent" ∷ []
 
 -- the line of a version: package, version, `done`, files and bytes
 abbrev pub version_line : VersionRow → List ℕ

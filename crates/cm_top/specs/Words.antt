@@ -6,7 +6,7 @@ use Rattle.cm_base.specs.Names.{name_of, is_package_id, text_if}
 use Rattle.cm_top.specs.declared.fault.WordsFault.{WordsFault}
 use Rattle.cm_top.specs.declared.fault.WordsFault.TheVariants.{NoCommand, UnknownCommand, BadValue, MissingWord, ExtraWord}
 use Rattle.cm_top.specs.declared.line.Line.{Line}
-use Rattle.cm_top.specs.declared.line.Line.TheVariants.{Init, List as ListBay}
+use Rattle.cm_top.specs.declared.line.Line.TheVariants.{Init, Add, List as ListBay}
 
 -- the bytes of each word
 abbrev pub texts : {A : Type 0} → List (String A) → List (List ℕ)
@@ -61,6 +61,10 @@ abbrev pub init_of : Result (List (List ℕ)) WordsFault → Result Line WordsFa
 init_of (Ok names) = Ok (Init names)
 init_of (Err fault) = Err fault
 
+abbrev pub add_of : Result (List ℕ) WordsFault → Result Line WordsFault
+add_of (Ok id) = Ok (Add id)
+add_of (Err fault) = Err fault
+
 abbrev pub list_of : Result (List ℕ) WordsFault → Result Line WordsFault
 list_of (Ok bay) = Ok (ListBay bay)
 list_of (Err fault) = Err fault
@@ -79,8 +83,8 @@ abbrev pub package_of : List ℕ → Option (List ℕ)
 package_of text = text_if (is_package_id text) text
 
 -- the words behind `add`: a package
-abbrev pub read_add : List (List ℕ) → Result (List ℕ) WordsFault
-read_add words = if has_option words then Err ExtraWord else (one_formed package_of (only_value (values_of words)))
+abbrev pub read_add : List (List ℕ) → Result Line WordsFault
+read_add words = if has_option words then Err ExtraWord else add_of (one_formed package_of (only_value (values_of words)))
 
 -- the words behind `list`: a bay
 abbrev pub read_list : List (List ℕ) → Result Line WordsFault
@@ -91,5 +95,6 @@ abbrev pub read_line : List (List ℕ) → Result Line WordsFault
 read_line [] = Err NoCommand
 read_line (word ∷ words) =
     if bytes_eq word (codes "init") then read_init words
+    else (if bytes_eq word (codes "add") then read_add words
     else (if bytes_eq word (codes "list") then read_list words
-    else Err UnknownCommand)
+    else Err UnknownCommand))

@@ -24,7 +24,7 @@ fn first_without_bay(names: &[ServerName]) -> Option<ServerName>
 fn make<D: Disk + Drop>(bay: &mut Bay<D>) -> Reply
     requires { bay.old.name ≡ site }
     ensures name { bay.new.name ≡ bay.old.name }
-    ensures ends { (from to : Sourced) → EndsOn (λ files library. step_init [] library) from to
+    ensures ends { (from to : Sourced) → EndsOn (λ given library. step_init [] library) from to
         (seen_bay D.reads D.faults bay.old) (seen_bay D.reads D.faults bay.new) result }
 {
     match Library::init(&mut bay.disk) {
@@ -37,7 +37,7 @@ fn make<D: Disk + Drop>(bay: &mut Bay<D>) -> Reply
 /// Makes the library of the site's bay, unless a name is no bay. It reads no folder, so its clause is of any.
 pub(crate) fn init<D: Disk + Drop>(names: &[ServerName], bays: &mut Vec<Bay<D>>) -> Reply
     requires { IsSiteAlone (seen D.reads D.faults bays.old.items) }
-    ensures ends { (from to : Sourced) → EndsBy (λ files library. step_init names.now library) from to
+    ensures ends { (from to : Sourced) → EndsBy (λ given library. step_init names.now library) from to
         (seen D.reads D.faults bays.old.items) (seen D.reads D.faults bays.new.items) result }
     ensures bays { SameBut site (seen D.reads D.faults bays.old.items) (seen D.reads D.faults bays.new.items) }
 {

@@ -1,6 +1,7 @@
 //! The commands of the program.
 #![tactic(auto)]
 
+mod adding;
 mod bay;
 mod fault;
 mod init;

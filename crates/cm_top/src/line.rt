@@ -1,11 +1,13 @@
 //! What the words of the command line say.
-use cm_base::{List, ServerName};
+use cm_base::{List, PackageId, ServerName};
 
 /// What the words of the command line say.
 #[derive(Drop)]
 pub enum Line {
     /// Makes the libraries of these bays, or of all where none is named.
     Init { names: List<ServerName> },
+    /// Adds the folder as version 1 of a package that was never opened.
+    Add { package: PackageId },
     /// Lists the versions and unfinished jobs of a bay.
     List { bay: ServerName },
 }

@@ -58,7 +58,7 @@ fn list_disk<D: Disk + Drop>(
     site_name: ServerName,
 ) -> (D, Reply)
     requires { site_name ≡ site }
-    ensures { (from to : Sourced) → EndsOn (λ files library. step_list bay library) from to
+    ensures { (from to : Sourced) → EndsOn (λ given library. step_list bay library) from to
         (seen_disk D.reads D.faults disk) (seen_disk D.reads D.faults result.0) result.1 }
 {
     match Library::open(alloc, disk) {
@@ -73,7 +73,7 @@ fn list_disk<D: Disk + Drop>(
 /// Lists the library of a bay. It reads no folder, so its clause is of any.
 pub(crate) fn list<D: Disk + Drop>(alloc: Global, bay: ServerName, bays: &mut Vec<Bay<D>>) -> Reply
     requires { IsSiteAlone (seen D.reads D.faults bays.old.items) }
-    ensures ends { (from to : Sourced) → EndsBy (λ files library. step_list bay library) from to
+    ensures ends { (from to : Sourced) → EndsBy (λ given library. step_list bay library) from to
         (seen D.reads D.faults bays.old.items) (seen D.reads D.faults bays.new.items) result }
     ensures bays { SameBut site (seen D.reads D.faults bays.old.items) (seen D.reads D.faults bays.new.items) }
 {

@@ -22,6 +22,8 @@ pub enum Refusal {
     TooManyFiles,
     /// 22: this file of the folder, from 0, is too long.
     FileTooLong { entry: u32 },
+    /// 30: the library's job numbers are used up, or its log has no room for a job.
+    Spent,
 }
 
 /// What a command answers.

@@ -5,6 +5,7 @@ ghost use Rattle.cm_top.specs.Causes.{HasCauses};
 ghost use Rattle.cm_top.specs.Runs.{Ends, RunMeets, sunk, sourced};
 ghost use Rattle.cm_top.specs.Words.{texts};
 
+use crate::adding::add;
 use crate::init::init;
 use crate::listing::list;
 use crate::show::show;
@@ -18,16 +19,17 @@ use std::alloc::Global;
 fn answer<F: Folder, D: Disk + Drop>(
     alloc: Global,
     line: Line,
-    _folder: &mut F,
+    folder: &mut F,
     bays: &mut Vec<Bay<D>>,
 ) -> Reply
     requires { IsSiteAlone (seen D.reads D.faults bays.old.items) }
-    ensures ends { Ends line (sourced F.shows F.faults _folder.old) (sourced F.shows F.faults _folder.new)
+    ensures ends { Ends line (sourced F.shows F.faults folder.old) (sourced F.shows F.faults folder.new)
         (seen D.reads D.faults bays.old.items) (seen D.reads D.faults bays.new.items) result }
     ensures bays { SameBut site (seen D.reads D.faults bays.old.items) (seen D.reads D.faults bays.new.items) }
 {
     match line {
         Line::Init { names } => init(names.items(), bays),
+        Line::Add { package } => add(alloc, package, folder, bays),
         Line::List { bay } => list(alloc, bay, bays),
     }
 }
@@ -58,7 +60,7 @@ fn run_words<F: Folder, K: Sink, D: Disk + Drop>(
 ///
 /// There is one bay, `site`. Words that say no command change no disk, and their usage line is printed. Else the text and
 /// the status are those of the machine's step on the library that the site's bay was at entry, and the bay is the library
-/// after it; or the run ends by a status of 3 to 6 with its cause.
+/// after it, with the whole trees of its versions; or the run ends by a status of 3 to 6 with its cause.
 pub fn run<S: Source, F: Folder, K: Sink, D: Disk + Drop>(
     alloc: Global,
     words: &[String],

@@ -51,6 +51,7 @@ fn refused(alloc: Global, out: &mut Vec<u8>, refusal: Refusal) -> Result<(), All
             let entry = entry.to_string(alloc)?;
             say(out, &[b"refused", b"22", b"FileTooLong", entry.as_bytes()])
         }
+        Refusal::Spent => say(out, &[b"refused", b"30", b"Spent"]),
     }
 }
 

@@ -1,10 +1,10 @@
 //! The words of the command line are read.
 ghost use Rattle.std.specs.Prelude.{◌≡◌, ◌≢◌, ◌+◌, ◌<◌, ◌^◌, length, IfOk, IfErr, Ok, Err};
-ghost use Rattle.cm_top.specs.Words.{texts, is_option, is_end, has_option, values_of, only_value, names_from, read_init, read_list, read_line};
+ghost use Rattle.cm_top.specs.Words.{texts, is_option, is_end, has_option, values_of, only_value, names_from, read_init, read_add, read_list, read_line};
 ghost use Rattle.cm_top.specs.declared.fault.WordsFault.TheVariants.{Memory};
 
 use crate::{Line, WordsFault};
-use cm_base::{List, ServerName};
+use cm_base::{List, PackageId, ServerName};
 use std::alloc::Global;
 
 fn ends_options(word: &[u8]) -> bool
@@ -95,6 +95,22 @@ fn init_line(alloc: Global, words: &[String]) -> Result<Line, WordsFault>
     }
 }
 
+fn add_line(words: &[String]) -> Result<Line, WordsFault>
+    ensures ok { IfOk result (λ line. read_add (texts words.now) ≡ Ok line) }
+    ensures err { IfErr result (λ fault. read_add (texts words.now) ≡ Err fault) }
+{
+    if has_options(words) {
+        return Err(WordsFault::ExtraWord);
+    }
+    match only_word(words) {
+        Ok(value) => match PackageId::read(value) {
+            Some(package) => Ok(Line::Add { package }),
+            None => Err(WordsFault::BadValue { value: 1 }),
+        },
+        Err(fault) => Err(fault),
+    }
+}
+
 fn list_line(words: &[String]) -> Result<Line, WordsFault>
     ensures ok { IfOk result (λ line. read_list (texts words.now) ≡ Ok line) }
     ensures err { IfErr result (λ fault. read_list (texts words.now) ≡ Err fault) }
@@ -122,6 +138,7 @@ pub fn read_words(alloc: Global, words: &[String]) -> Result<Line, WordsFault>
     let rest = &words[1..];
     match words[0].as_str() {
         "init" => init_line(alloc, rest),
+        "add" => add_line(rest),
         "list" => list_line(rest),
         _ => Err(WordsFault::UnknownCommand),
     }

@@ -1,4 +1,7 @@
 //! What the program hands to its commands.
+ghost use Rattle.std.specs.Prelude.{◌≡◌, IfOk, string_bytes};
+ghost use Rattle.cmsite.specs.Arguments.{texts, base_in, folder_in, words_in, site_in};
+
 use crate::clock::minute;
 use crate::input::HostSource;
 use crate::output::HostSink;
@@ -25,31 +28,39 @@ fn arguments(rt: &HostRuntime) -> Result<Vec<String>, Memory> {
 }
 
 // The base folder: the first of two arguments or more.
-fn base_of(arguments: &[String]) -> &str {
-    if arguments.len() < 2 {
-        return ".";
+fn base_of(arguments: &[String]) -> &str
+    ensures { result.now ≡ base_in (texts arguments.now) }
+{
+    match arguments {
+        [base, _, ..] => base.as_str(),
+        _ => ".",
     }
-    arguments[0].as_str()
 }
 
 // The folder that is added from: the second of two arguments or more.
-fn folder_of(arguments: &[String]) -> &str {
-    if arguments.len() < 2 {
-        return "-";
+fn folder_of(arguments: &[String]) -> &str
+    ensures { result.now ≡ folder_in (texts arguments.now) }
+{
+    match arguments {
+        [_, folder, ..] => folder.as_str(),
+        _ => "-",
     }
-    arguments[1].as_str()
 }
 
 // The words: the arguments behind the first two.
-fn words_of(arguments: &[String]) -> &[String] {
-    if arguments.len() < 2 {
-        return &arguments[arguments.len()..];
+fn words_of(arguments: &[String]) -> &[String]
+    ensures { result.now ≡ words_in arguments.now }
+{
+    match arguments {
+        [_, _, words @ ..] => words,
+        _ => &[],
     }
-    &arguments[2..]
 }
 
 // The folder of the site's disk.
-fn site_folder(alloc: Global, base: &str) -> Result<String, Memory> {
+fn site_folder(alloc: Global, base: &str) -> Result<String, Memory>
+    ensures { IfOk result (λ path. string_bytes path ≡ site_in base.now) }
+{
     let mut path = String::from_str(alloc, base)?;
     path.push_str("/site")?;
     Ok(path)

@@ -1,40 +1,19 @@
 //! What the tests hand to `run`.
-ghost use Rattle.std.specs.Prelude.{[], None, refl};
-
 use crate::{Bay, run};
 use cm_base::{MemSink, MemSource, Place, ServerName};
 use cm_disk::Disk;
-use cm_tree::{Folder, FolderFault, RawPath};
+use cm_tree::{Folder, MemFolder};
 use std::alloc::Global;
 use std::process::Abort;
 use std::test::Fail;
 
-/// A folder without files.
-#[derive(Drop)]
-pub(crate) struct NoFiles;
-
-impl Folder for NoFiles {
-    ghost shows = { λ _. record { paths = []; now = λ _. None; later = λ _. None } };
-
-    ghost faults = { λ _. 0 };
-
-    ghost rising = { λ _. refl };
-
-    fn path_at(&mut self, _n: u32) -> Result<Option<RawPath>, FolderFault> {
-        Ok(None)
-    }
-
-    fn read_at(&mut self, _n: u32, _offset: u64, _buf: &mut [u8]) -> Result<usize, FolderFault> {
-        Ok(0)
-    }
-}
-
-/// How a run of these words ended over a site's disk: the status, the text, and the disk. The sink takes three bytes a call,
-/// and its calls in `fail` fail.
-pub(crate) fn ran<D: Disk + Drop>(
+/// How a run of these words ended over a site's disk and a folder: the status, the text, and the disk. The sink takes three
+/// bytes a call, and its calls in `fail` fail.
+pub(crate) fn ran_over<F: Folder, D: Disk + Drop>(
     rt: &impl Abort,
     alloc: Global,
     words: &[&str],
+    folder: &mut F,
     disk: D,
     fail: &[u64],
 ) -> Result<(u8, Vec<u8>, D), Fail> {
@@ -47,18 +26,35 @@ pub(crate) fn ran<D: Disk + Drop>(
     let name = ServerName::read(b"site").expect(rt, "a name");
     let mut bays = Vec::new(alloc);
     bays.push(Bay { name, disk })?;
-    let status = run(
-        alloc,
-        &list,
-        &mut input,
-        &mut NoFiles,
-        &mut out,
-        &mut bays,
-        0,
-    );
+    let status = run(alloc, &list, &mut input, folder, &mut out, &mut bays, 0);
     let bay = bays.pop().ok_or("the bay")?;
     let Bay { disk, .. } = bay;
     Ok((status, out.bytes().to_vec(alloc)?, disk))
+}
+
+/// The same over a folder without files.
+pub(crate) fn ran<D: Disk + Drop>(
+    rt: &impl Abort,
+    alloc: Global,
+    words: &[&str],
+    disk: D,
+    fail: &[u64],
+) -> Result<(u8, Vec<u8>, D), Fail> {
+    let mut folder = folder_of(alloc, &[], &[])?;
+    ran_over(rt, alloc, words, &mut folder, disk, fail)
+}
+
+/// A folder of these files, each a path and its bytes, whose calls in `fail` fail.
+pub(crate) fn folder_of(
+    alloc: Global,
+    files: &[(&[u8], &[u8])],
+    fail: &[u64],
+) -> Result<MemFolder, Fail> {
+    let mut pairs = Vec::new(alloc);
+    for (path, bytes) in files {
+        pairs.push((path.to_vec(alloc)?, bytes.to_vec(alloc)?))?;
+    }
+    Ok(MemFolder::new(alloc, pairs, Vec::new(alloc), fail.to_vec(alloc)?)?)
 }
 
 /// Whether the place on a disk has exactly these bytes.
@@ -71,4 +67,16 @@ pub(crate) fn holds<D: Disk>(disk: &mut D, place: &[u8], bytes: &[u8]) -> bool {
         return false;
     };
     count < 512 && &buf[..count] == bytes && disk.size(&place) == Ok(Some(bytes.len() as u64))
+}
+
+/// Makes the place on a disk these bytes, if there are any.
+pub(crate) fn lay<D: Disk>(disk: &mut D, place: &[u8], bytes: Option<&[u8]>) -> Result<(), Fail> {
+    let place = Place::read(place).ok_or("a place")?;
+    disk.remove(&place)?;
+    if let Some(bytes) = bytes {
+        if bytes.len() < 65536 {
+            disk.write_at(&place, 0, bytes)?;
+        }
+    }
+    Ok(())
 }

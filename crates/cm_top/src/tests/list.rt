@@ -1,5 +1,6 @@
-//! The command `list` on a site without packages.
-use crate::tests::fakes::ran;
+//! The command `list`.
+use crate::tests::add::{LOG, MANIFEST};
+use crate::tests::fakes::{lay, ran};
 use cm_base::Place;
 use cm_disk::{Disk, MemDisk};
 use std::test::Fail;
@@ -21,6 +22,26 @@ fn lists_nothing(rt: HostRuntime) -> Result<(), Fail> {
     let (status, text, _) = ran(&rt, alloc, &["list", "site"], disk, &[])?;
     assert!(rt; status == 7);
     assert!(rt; text.as_slice() == b"library site unreadable PkgLib/log.0 0\n".as_slice());
+    Ok(())
+}
+
+// The log ends behind the record that opens a job.
+#[test]
+fn lists_a_job(rt: HostRuntime) -> Result<(), Fail> {
+    let alloc = rt.alloc();
+    let disk = MemDisk::new(alloc, Vec::new(alloc))?;
+    let (_, _, mut disk) = ran(&rt, alloc, &["init"], disk, &[])?;
+    lay(&mut disk, b"PkgLib/log.0", Some(&LOG))?;
+    lay(&mut disk, b"DataLib/PS100001.1", Some(&MANIFEST))?;
+    let (status, text, mut disk) = ran(&rt, alloc, &["list", "site"], disk, &[])?;
+    assert!(rt; status == 0 && text.as_slice() == b"PS100001 1 done 3 8\n".as_slice());
+    let mut opened = LOG[..77].to_vec(alloc)?;
+    opened[76] = 0;
+    lay(&mut disk, b"PkgLib/log.0", Some(&opened))?;
+    let (status, text, mut disk) = ran(&rt, alloc, &["list", "site"], disk, &[])?;
+    assert!(rt; status == 0 && text.as_slice() == b"PS100001 1 job 1 3 8\n".as_slice());
+    let (status, text, _) = ran(&rt, alloc, &["add", "PS100001"], disk, &[])?;
+    assert!(rt; status == 1 && text.as_slice() == b"refused 2 PackageThere 1\n".as_slice());
     Ok(())
 }
 

@@ -22,6 +22,6 @@ pub returns-in-Err : goal.returns-in-Err
 returns-in-Err g c = λ from to.
     let reads = g.D.Disk.reads in
     let faults = g.D.Disk.faults in
-    subst (λ (reply : Reply). EndsOn (λ files library. step_list c.args.bay library) from to (seen_disk reads faults c.args.disk) (seen_disk reads faults c.in-Err.disk) reply) (sym c.not_opened.ensures)
-    (not_open (λ files library. step_list c.args.bay library) from to (seen_disk reads faults c.args.disk) (seen_disk reads faults c.in-Err.disk) c.in-Err.fault c.args.site_name c.requires
+    subst (λ (reply : Reply). EndsOn (λ given library. step_list c.args.bay library) from to (seen_disk reads faults c.args.disk) (seen_disk reads faults c.in-Err.disk) reply) (sym c.not_opened.ensures)
+    (not_open (λ given library. step_list c.args.bay library) from to (seen_disk reads faults c.args.disk) (seen_disk reads faults c.in-Err.disk) c.in-Err.fault c.args.site_name c.requires
     c.in-Err.ensures.given_back (λ files. refl) (λ files place at. refl) c.in-Err.ensures.missing c.in-Err.ensures.unreadable c.in-Err.ensures.cause)
