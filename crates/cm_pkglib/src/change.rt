@@ -4,7 +4,7 @@ use cm_base::{Hash, JobId, PackageId, Version};
 /// A change of a library's rows.
 #[derive(Clone, Copy)]
 pub enum Change {
-    /// A job begins for a version, whose manifest has this many entries, and this size and hash when encoded.
+    /// A job begins for a version, whose manifest has this many entries, and this size in bytes and SHA-256 when encoded.
     Opened {
         job: JobId,
         package: PackageId,

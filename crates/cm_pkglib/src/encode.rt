@@ -16,7 +16,8 @@ fn put(out: &mut [u8; 61], at: usize, piece: &[u8]) -> usize
 }
 
 impl Change {
-    /// Writes the one spelling of the change to the front of the buffer, and answers its length in bytes.
+    /// Writes the one spelling of the change to the front of the buffer, and answers its length in bytes: 61 of an opening,
+    /// 13 of a removal, else 9. What stands behind it in the buffer means nothing.
     pub fn encode(&self, out: &mut [u8; 61]) -> usize
         ensures fits { result ≤ 61 }
         ensures length { result ≡ length (spelled self.now) }

@@ -30,6 +30,16 @@ fn off<const N: usize>(record: [u8; N], at: usize, byte: u8) -> bool
     Change::decode(&bytes).is_none()
 }
 
+// A record with one byte more.
+fn with_more(record: &[u8]) -> bool {
+    let mut bytes = [0; 64];
+    if record.len() >= bytes.len() {
+        return false;
+    }
+    bytes[..record.len()].copy_from_slice(record);
+    Change::decode(&bytes[..record.len() + 1]).is_none()
+}
+
 // A record that is read is written as the same bytes.
 fn comes_back(record: &[u8]) -> bool {
     match Change::decode(record) {
@@ -109,11 +119,10 @@ fn one_wrong_byte(rt: HostRuntime) {
     assert!(rt; Change::decode(&DONE[..8]).is_none(), "one short");
     assert!(rt; Change::decode(&DROPPED[..8]).is_none(), "one short");
     assert!(rt; Change::decode(&REMOVED[..12]).is_none(), "one short");
-    assert!(rt;
-        Change::decode(&[2, 7, 1, 0, 0, 0, 0, 0, 0, 0]).is_none(),
-        "one more"
-    );
-    assert!(rt; Change::decode(&[1; 62]).is_none(), "one more");
+    assert!(rt; with_more(&OPENED), "one more");
+    assert!(rt; with_more(&DONE), "one more");
+    assert!(rt; with_more(&DROPPED), "one more");
+    assert!(rt; with_more(&REMOVED), "one more");
 }
 
 fn job_of(number: u64) -> Result<JobId, Fail> {
