@@ -78,7 +78,7 @@ impl Gathered {
         &self.files
     }
 
-    /// The manifest of the tree: the sizes and the hashes of its files.
+    /// The manifest of the tree: the sizes and the hashes of its files. An Err is want of memory.
     pub fn manifest(&self, alloc: Global) -> Result<Manifest, Memory>
         ensures { IfOk result (λ manifest. manifest ≡ manifest_of self.now) }
     {
@@ -145,7 +145,8 @@ fn walked<F: Folder>(
     }
 }
 
-/// Reads each file of a folder once, whole, into memory.
+/// Reads each file of a folder once, whole, into memory: at most `most_files` files, which are no more than 20,000, of at most
+/// `most_bytes` bytes each. The faults are those of [`crate::scan`], with these limits.
 pub fn gather<F: Folder>(
     alloc: Global,
     folder: &mut F,

@@ -53,7 +53,8 @@ fn put_entry(out: &mut Vec<u8>, entry: &Entry) -> Result<(), Memory>
 /// How many bytes spell a list of entries, with what stands before them.
 fn spelling_len(entries: &[Entry]) -> u32
     requires { IsManifest entries.now }
-    ensures { result ≡ length (spelling entries.now) }
+    ensures exact { result ≡ length (spelling entries.now) }
+    ensures most { result ≤ 5540009 }
 {
     let mut total = 9;
     for entry in entries {
@@ -102,22 +103,25 @@ impl Manifest {
         &self.entries
     }
 
-    /// How many bytes spell it, at most 5,540,009.
+    /// How many bytes spell it: 9 to 5,540,009.
     pub fn encoded_len(&self) -> u32
-        ensures { result ≡ length (spelling self.now) }
+        ensures exact { result ≡ length (spelling self.now) }
+        ensures most { result ≤ 5540009 }
     {
         spelling_len(&self.entries)
     }
 
     /// The bytes that spell it: `CMDL`, the form 1, the number of entries in four bytes, and each entry by the length of its
-    /// path in a byte, the path, the size in four bytes and the hash. Numbers are little-endian.
+    /// path in a byte, the path, the size in four bytes and the hash. Numbers are little-endian. An Err is want of memory.
     pub fn encode(&self, alloc: Global) -> Result<Vec<u8>, Memory>
-        ensures { IfOk result (λ bytes. bytes.items ≡ spelling self.now) }
+        ensures exact { IfOk result (λ bytes. bytes.items ≡ spelling self.now) }
+        // What is written is of the form.
+        ensures spells { IfOk result (λ bytes. Spells bytes.items self.now) }
     {
         spelled(alloc, &self.entries)
     }
 
-    /// An equal manifest.
+    /// An equal manifest. An Err is want of memory.
     pub fn copy(&self, alloc: Global) -> Result<Manifest, Memory>
         ensures { IfOk result (λ copy. copy ≡ self.now) }
     {
@@ -125,7 +129,8 @@ impl Manifest {
         Ok(Manifest { entries })
     }
 
-    /// The manifest that all of the bytes spell, or the first fault. Want of memory may be answered in place of either.
+    /// The manifest that all of the bytes spell, or the first fault in the order of [`TreeFault`]'s text, with its place in
+    /// bytes from the front, or the number of its entry, from 0. Want of memory may be answered in place of either.
     pub fn decode(alloc: Global, bytes: &[u8]) -> Result<Manifest, TreeFault>
         // It is what reading gives.
         ensures exact { Gives (λ manifest. manifest) result (read_manifest bytes.now) }

@@ -73,7 +73,10 @@ fn walked<F: Folder>(
     }
 }
 
-/// Reads each file of a folder once, in pieces: at most 20,000 files of at most 4,294,967,295 bytes.
+/// Reads each file of a folder once, in pieces of 65,536 bytes, and gives their manifest: at most 20,000 files of at most
+/// 4,294,967,295 bytes. Path 20,000 is asked for first, and `TooManyFiles` comes exactly where it is there. Then the files are
+/// taken in order: `BadPath`, `SamePath`, `FileTooLong`. `Folder` comes only where the folder failed in this call, and `Memory`
+/// for want of memory.
 pub fn scan<F: Folder>(alloc: Global, folder: &mut F) -> Result<Manifest, ScanFault>
     // The manifest is that of the folder's files, as they read at the call, and none of them has a fault.
     ensures manifest { IfOk result (λ entries. Scans 20000 4294967295 (F.shows folder.old) entries) }

@@ -199,9 +199,9 @@ fn faults_of_files(rt: HostRuntime) -> Result<(), Fail> {
     Ok(())
 }
 
-// A folder of so many empty files.
-fn many(rt: &HostRuntime, count: u32) -> Result<MemFolder, Fail> {
-    let mut files = Vec::new(rt.alloc());
+// A folder of an empty file with this path, and of so many others behind it.
+fn many(rt: &HostRuntime, first: &[u8], count: u32) -> Result<MemFolder, Fail> {
+    let mut files = pairs(rt, &[(first, b"")])?;
     for n in 0..count {
         let number = n.to_be_bytes();
         let mut path = Vec::new(rt.alloc());
@@ -221,9 +221,12 @@ fn many(rt: &HostRuntime, count: u32) -> Result<MemFolder, Fail> {
 
 #[test]
 fn number_of_files(rt: HostRuntime) -> Result<(), Fail> {
-    assert!(rt; gather_fault(&rt, &mut many(&rt, 64)?, 0) == None);
-    assert!(rt; gather_fault(&rt, &mut many(&rt, 65)?, 0) == Some(ScanFault::TooManyFiles));
-    assert!(rt; scan_fault(&rt, &mut many(&rt, 65)?) == None);
+    let too_many = Some(ScanFault::TooManyFiles);
+    assert!(rt; gather_fault(&rt, &mut many(&rt, b"a", 63)?, 0) == None);
+    assert!(rt; gather_fault(&rt, &mut many(&rt, b"a", 64)?, 0) == too_many);
+    assert!(rt; scan_fault(&rt, &mut many(&rt, b"a", 64)?) == None);
+    // That there is one too many comes before a path that is off its form.
+    assert!(rt; gather_fault(&rt, &mut many(&rt, b"a:", 64)?, 0) == too_many);
     Ok(())
 }
 
@@ -245,14 +248,16 @@ fn length_of_files(rt: HostRuntime) -> Result<(), Fail> {
     Ok(())
 }
 
-// The calls are: the path past the most, then for each file its path, a reading, and the reading at its end.
+// The calls are ten: the path past the most, then for each file its path, a reading where it has bytes, and the reading at
+// its end, and the path past the last. So each file is read once.
 #[test]
 fn each_call_fails_in_turn(rt: HostRuntime) -> Result<(), Fail> {
-    for call in 0..9 {
+    for call in 0..10 {
         assert!(rt; scan_fault(&rt, &mut three(&rt, &[call])?) == Some(ScanFault::Folder));
         assert!(rt; gather_fault(&rt, &mut three(&rt, &[call])?, 5) == Some(ScanFault::Folder));
     }
     assert!(rt; scan_fault(&rt, &mut three(&rt, &[10])?) == None);
+    assert!(rt; gather_fault(&rt, &mut three(&rt, &[10])?, 5) == None);
     Ok(())
 }
 
