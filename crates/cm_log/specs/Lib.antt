@@ -1,5 +1,6 @@
 pub mod Fronts
 pub mod Heads
+pub mod Laws
 pub mod Logs
 pub mod Records
 pub mod Settled

@@ -4,6 +4,7 @@
 mod commit;
 mod faults;
 mod head;
+mod laws;
 mod log;
 mod making;
 mod opening;
@@ -15,6 +16,7 @@ mod state;
 mod whole;
 
 pub use faults::{AppendFault, CreateFault, LogFault};
+pub use laws::records_are_read;
 pub use making::create;
 pub use position::LogReader;
 pub use shelf::Shelf;

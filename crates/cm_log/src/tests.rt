@@ -8,7 +8,6 @@ use crate::{AppendFault, CreateFault, Log, LogFault, LogReader, Shelf, create};
 use cm_base::Place;
 use cm_disk::{Disk, MemDisk};
 use std::alloc::Global;
-use std::process::Abort;
 use std::test::Fail;
 
 // The log behind all its records.
@@ -119,101 +118,81 @@ fn lay<D: Disk>(disk: &mut D, place: &Place, bytes: Option<&[u8]>) -> bool {
     }
 }
 
-fn try_faults(rt: &impl Abort, alloc: Global) -> Result<(), Fail> {
-    let live = b"\x01\x01\x01\0\0\0\0\0\0\0\0".as_slice();
-    let idle = b"\0\x01\0\0\0\0\0\0\0\0\0".as_slice();
-    for (first, second, side, at) in [
-        (None, Some(idle), Side::First, 0),
-        (Some(b"".as_slice()), Some(idle), Side::First, 0),
-        (Some(live), None, Side::Second, 0),
-        (Some(live), Some(b""), Side::Second, 0),
-        (None, None, Side::First, 0),
-        (Some(idle), Some(idle), Side::First, 0),
-        (Some(b"\x02"), Some(b"\x02"), Side::First, 0),
-        (Some(live), Some(live), Side::First, 0),
-        (
-            Some(b"\x01\x02\x01\0\0\0\0\0\0\0\0"),
-            Some(idle),
-            Side::First,
-            1,
-        ),
-        (Some(b"\x01"), Some(idle), Side::First, 1),
-        (
-            Some(idle),
-            Some(b"\x01\x03\0\0\0\0\0\0\0\0\0"),
-            Side::Second,
-            1,
-        ),
-        (
-            Some(live),
-            Some(b"\x01\x02\x02\0\0\0\0\0\0\0\0"),
-            Side::Second,
-            1,
-        ),
-        (Some(b"\x01\x01\x01"), Some(idle), Side::First, 3),
-        (
-            Some(b"\x01\x01\x01\0\0\0\0\0\0\0"),
-            Some(idle),
-            Side::First,
-            10,
-        ),
-        (
-            Some(b"\x01\x01\x01\0\0\0\0\0\0\0\x01"),
-            Some(idle),
-            Side::First,
-            11,
-        ),
-        (
-            Some(b"\x01\x01\x01\0\0\0\0\0\0\0\x01\0\0\0"),
-            Some(idle),
-            Side::First,
-            14,
-        ),
-        (
-            Some(b"\x01\x01\x01\0\0\0\0\0\0\0\x01\x02\0\0\0a"),
-            Some(idle),
-            Side::First,
-            16,
-        ),
-        (
-            Some(b"\x01\x01\x01\0\0\0\0\0\0\0\x01\x01\0\0\0a"),
-            Some(idle),
-            Side::First,
-            16,
-        ),
-        (
-            Some(b"\x01\x01\x01\0\0\0\0\0\0\0\x01\x01\0\x01\0"),
-            Some(idle),
-            Side::First,
-            11,
-        ),
-        (
-            Some(b"\x01\x01\x01\0\0\0\0\0\0\0\x01\x01\0\0\0a\x01\0\0\0\x01"),
-            Some(idle),
-            Side::First,
-            17,
-        ),
-    ] {
-        let mut disk = MemDisk::new(alloc, Vec::new(alloc))?;
-        let shelf = Shelf::PkgLib;
-        assert!(rt; lay(&mut disk, &ready_at(shelf), Some(b"")));
-        assert!(rt; lay(&mut disk, &log_at(shelf, Side::First), first));
-        assert!(rt; lay(&mut disk, &log_at(shelf, Side::Second), second));
-        let fault = LogFault::Unreadable {
-            place: log_at(shelf, side),
-            at,
-        };
-        assert!(rt;
-            records(&mut disk, shelf, &[b"a", b"b"]) == Err(fault),
-            "at {at}"
-        );
-    }
-    Ok(())
+// The two logs of a shelf that has `ready`, and the side and the place that are unreadable.
+type Broken = (Option<&'static [u8]>, Option<&'static [u8]>, Side, u64);
+
+const LIVE: &[u8] = b"\x01\x01\x01\0\0\0\0\0\0\0\0";
+
+const IDLE: &[u8] = b"\0\x01\0\0\0\0\0\0\0\0\0";
+
+// Absent or empty, neither live, both live of one generation, and a live log of an unknown form.
+const BAD_HEADS: [Broken; 12] = [
+    (None, Some(IDLE), Side::First, 0),
+    (Some(b""), Some(IDLE), Side::First, 0),
+    (Some(LIVE), None, Side::Second, 0),
+    (Some(LIVE), Some(b""), Side::Second, 0),
+    (None, None, Side::First, 0),
+    (Some(IDLE), Some(IDLE), Side::First, 0),
+    (Some(b"\x02"), Some(b"\x02"), Side::First, 0),
+    (Some(LIVE), Some(LIVE), Side::First, 0),
+    (
+        Some(b"\x01\x02\x01\0\0\0\0\0\0\0\0"),
+        Some(IDLE),
+        Side::First,
+        1,
+    ),
+    (Some(b"\x01"), Some(IDLE), Side::First, 1),
+    (
+        Some(IDLE),
+        Some(b"\x01\x03\0\0\0\0\0\0\0\0\0"),
+        Side::Second,
+        1,
+    ),
+    (
+        Some(LIVE),
+        Some(b"\x01\x02\x02\0\0\0\0\0\0\0\0"),
+        Side::Second,
+        1,
+    ),
+];
+
+// What stands in a live log, and the place that is unreadable: no gate, the length or the body cut short, a length above 65,536.
+const BAD_RECORDS: [(&[u8], u64); 8] = [
+    (b"\x01\x01\x01", 3),
+    (b"\x01\x01\x01\0\0\0\0\0\0\0", 10),
+    (b"\x01\x01\x01\0\0\0\0\0\0\0\x01", 11),
+    (b"\x01\x01\x01\0\0\0\0\0\0\0\x01\0\0\0", 14),
+    (b"\x01\x01\x01\0\0\0\0\0\0\0\x01\x02\0\0\0a", 16),
+    (b"\x01\x01\x01\0\0\0\0\0\0\0\x01\x01\0\0\0a", 16),
+    (b"\x01\x01\x01\0\0\0\0\0\0\0\x01\x01\0\x01\0", 11),
+    (
+        b"\x01\x01\x01\0\0\0\0\0\0\0\x01\x01\0\0\0a\x01\0\0\0\x01",
+        17,
+    ),
+];
+
+// Whether a shelf with these two logs is unreadable there.
+fn is_unreadable(alloc: Global, broken: Broken) -> Result<bool, Fail> {
+    let (first, second, side, at) = broken;
+    let shelf = Shelf::PkgLib;
+    let mut disk = MemDisk::new(alloc, Vec::new(alloc))?;
+    let laid = lay(&mut disk, &ready_at(shelf), Some(b""))
+        && lay(&mut disk, &log_at(shelf, Side::First), first)
+        && lay(&mut disk, &log_at(shelf, Side::Second), second);
+    let place = log_at(shelf, side);
+    Ok(laid && records(&mut disk, shelf, &[b"a", b"b"]) == Err(LogFault::Unreadable { place, at }))
 }
 
 #[test]
 fn unreadable_logs(rt: HostRuntime) -> Result<(), Fail> {
-    try_faults(&rt, rt.alloc())
+    for broken in BAD_HEADS {
+        assert!(rt; is_unreadable(rt.alloc(), broken)?, "head, at {}", broken.3);
+    }
+    for (log, at) in BAD_RECORDS {
+        let broken = (Some(log), Some(IDLE), Side::First, at);
+        assert!(rt; is_unreadable(rt.alloc(), broken)?, "record, at {at}");
+    }
+    Ok(())
 }
 
 #[test]
