@@ -1,0 +1,7 @@
+pub mod Adding
+pub mod Digits
+pub mod Names
+pub mod Quiet
+pub mod Rises
+pub mod Steps
+pub mod Wholes

@@ -1,0 +1,207 @@
+//! Files on a disk in memory: how many pieces they take, what a stop at each device call leaves, and each fault.
+use crate::{FileFault, SealFault, erase, next, put, read_at, salvage, seal, start};
+use cm_base::Hash;
+use cm_disk::{Disk, DiskFault, MemDisk};
+use std::alloc::Global;
+use std::process::Abort;
+use std::test::Fail;
+
+const EMPTY: &[u8; 64] = b"e3b0c44298fc1c149afbf4c8996fb92427ae41e4649b934ca495991b7852b855";
+
+const ABC: &[u8; 64] = b"ba7816bf8f01cfea414140de5dae2223b00361a396177a9cb410ff61f20015ad";
+
+const ABD: &[u8; 64] = b"a52d159f262b2c6ddb724a61840befc36eb30c88877a4030b65cbe86298449c9";
+
+const HELLO: &[u8; 64] = b"2cf24dba5fb0a30e26e83b2ac5b9e29e1b161e5c1fa7425e73043362938b9824";
+// Of 65,536 and of 65,537 bytes 7.
+const SEVENS: &[u8; 64] = b"07dcb6d11a03624831513672ffdb84d6b1730f54e90aaace444fe3a8ea9b2163";
+
+const ONE_MORE: &[u8; 64] = b"5ada55500fc283f478a1303fb529ad69626d1ce9209ebc5878f9a45de61e635e";
+
+fn hash_of(text: &[u8; 64]) -> Result<Hash, Fail> {
+    match Hash::read(text) {
+        Some(hash) => Ok(hash),
+        None => Err(Fail::new("no hash")),
+    }
+}
+
+#[derive(Clone, Copy, Debug, PartialEq, Eq)]
+enum Stop {
+    Start,
+    Put(FileFault),
+    Seal(SealFault),
+}
+
+// Writes a file in pieces, and tells how many there were.
+fn write_file<D: Disk>(disk: &mut D, hash: Hash, size: u32, bytes: &[u8]) -> Result<usize, Stop> {
+    let Ok(mut writing) = start(disk, hash, size) else {
+        return Err(Stop::Start);
+    };
+    let mut at = 0;
+    let mut pieces: usize = 0;
+    while at < bytes.len() {
+        let most = (bytes.len() - at).min(65536);
+        if let Err(fault) = put(&mut writing, disk, at as u64, &bytes[at..at + most]) {
+            return Err(Stop::Put(fault));
+        }
+        at += most;
+        pieces = pieces.saturating_add(1);
+    }
+    match seal(writing, disk) {
+        Ok(()) => Ok(pieces),
+        Err(fault) => Err(Stop::Seal(fault)),
+    }
+}
+
+// Whether the place of a hash has these bytes and no others.
+fn holds<D: Disk>(disk: &mut D, hash: Hash, bytes: &[u8]) -> bool {
+    let mut buf = [0u8; 16];
+    match read_at(disk, hash, 0, &mut buf) {
+        Ok(Some(count)) => &buf[..count] == bytes,
+        _ => false,
+    }
+}
+
+#[test]
+fn pieces(rt: HostRuntime) -> Result<(), Fail> {
+    let mut disk = MemDisk::new(rt.alloc(), Vec::new(rt.alloc()))?;
+    let sevens = [7u8; 65537];
+    let empty = hash_of(EMPTY)?;
+    let one_more = hash_of(ONE_MORE)?;
+    assert_eq!(rt; write_file(&mut disk, empty, 0, b""), Ok(0));
+    assert_eq!(rt;
+        write_file(&mut disk, hash_of(SEVENS)?, 65536, &sevens[..65536]),
+        Ok(1)
+    );
+    assert_eq!(rt; write_file(&mut disk, one_more, 65537, &sevens), Ok(2));
+    assert!(rt; holds(&mut disk, empty, b""));
+    assert_eq!(rt; salvage(&mut disk.crash(0)?, empty, 0), Ok(true));
+    assert_eq!(rt; salvage(&mut disk.crash(0)?, one_more, 65537), Ok(true));
+    assert_eq!(rt; salvage(&mut disk, one_more, 65536), Ok(false));
+    Ok(())
+}
+
+#[test]
+fn refusals(rt: HostRuntime) -> Result<(), Fail> {
+    let mut disk = MemDisk::new(rt.alloc(), Vec::new(rt.alloc()))?;
+    let abc = hash_of(ABC)?;
+    let wrong = SealFault::WrongBytes {
+        named: abc,
+        size: 3,
+        got: hash_of(ABD)?,
+        put: 3,
+    };
+    let mut writing = start(&mut disk, abc, 3)?;
+    assert_eq!(rt;
+        put(&mut writing, &mut disk, 1, b"abc"),
+        Err(FileFault::WrongOffset { expected: 0 })
+    );
+    assert_eq!(rt;
+        put(&mut writing, &mut disk, 0, b"abcd"),
+        Err(FileFault::TooLong { size: 3 })
+    );
+    assert_eq!(rt; put(&mut writing, &mut disk, 0, b"abc"), Ok(()));
+    assert_eq!(rt; seal(writing, &mut disk), Ok(()));
+    assert_eq!(rt;
+        write_file(&mut disk, abc, 3, b"abd"),
+        Err(Stop::Seal(wrong))
+    );
+    Ok(())
+}
+
+#[test]
+fn a_walk(rt: HostRuntime) -> Result<(), Fail> {
+    let mut disk = MemDisk::new(rt.alloc(), Vec::new(rt.alloc()))?;
+    let abc = hash_of(ABC)?;
+    let hello = hash_of(HELLO)?;
+    assert_eq!(rt; next(&mut disk, None), Ok(None));
+    assert_eq!(rt; write_file(&mut disk, abc, 3, b"abc"), Ok(1));
+    assert_eq!(rt; write_file(&mut disk, hello, 5, b"hello"), Ok(1));
+    assert_eq!(rt; next(&mut disk, None), Ok(Some(hello)));
+    assert_eq!(rt; next(&mut disk, Some(hello)), Ok(Some(abc)));
+    assert_eq!(rt; next(&mut disk, Some(abc)), Ok(None));
+    assert_eq!(rt; erase(&mut disk, hello), Ok(()));
+    assert_eq!(rt; next(&mut disk, None), Ok(Some(abc)));
+    assert_eq!(rt; salvage(&mut disk.crash(1)?, hello, 5), Ok(false));
+    Ok(())
+}
+
+// Whether salvage is true on each image exactly where the image has the file, and on each where it was sealed.
+fn salvages(
+    disk: &MemDisk,
+    hash: Hash,
+    bytes: &[u8],
+    size: u32,
+    sealed: bool,
+) -> Result<bool, Fail> {
+    for pick in [0u8, 1, 2] {
+        let mut image = disk.crash(pick)?;
+        let there = holds(&mut image, hash, bytes);
+        if salvage(&mut image, hash, size) != Ok(there) || (sealed && !there) {
+            return Ok(false);
+        }
+    }
+    Ok(true)
+}
+
+fn try_stops(rt: &impl Abort, alloc: Global) -> Result<(), Fail> {
+    let hello = hash_of(HELLO)?;
+    for at in 0..6 {
+        let mut disk = MemDisk::stopping(alloc, at)?;
+        let written = write_file(&mut disk, hello, 5, b"hello");
+        let stop = match at {
+            0 | 1 => Err(Stop::Start),
+            2 => Err(Stop::Put(FileFault::Disk)),
+            3 => Err(Stop::Seal(SealFault::Disk)),
+            _ => Ok(1),
+        };
+        assert_eq!(rt; written, stop, "stopped at {at}");
+        assert!(rt;
+            salvages(&disk, hello, b"hello", 5, at > 3)?,
+            "stopped at {at}"
+        );
+    }
+    Ok(())
+}
+
+#[test]
+fn a_stop_at_each_call(rt: HostRuntime) -> Result<(), Fail> {
+    try_stops(&rt, rt.alloc())
+}
+
+// The calls of a salvage, a reading, an erasure and a walk, of which one fails.
+fn try_failing(alloc: Global, at: u64) -> Result<[bool; 4], Fail> {
+    let hello = hash_of(HELLO)?;
+    let mut fail = Vec::new(alloc);
+    fail.push(at)?;
+    let mut disk = MemDisk::new(alloc, fail)?;
+    let _written = write_file(&mut disk, hello, 5, b"hello");
+    Ok([
+        salvage(&mut disk, hello, 5) == Err(DiskFault),
+        read_at(&mut disk, hello, 0, &mut [0u8; 8]) == Err(DiskFault),
+        next(&mut disk, None) == Err(DiskFault),
+        erase(&mut disk, hello) == Err(DiskFault),
+    ])
+}
+
+#[test]
+fn a_fault_at_each_call(rt: HostRuntime) -> Result<(), Fail> {
+    // Four calls write the file; a salvage takes three, a reading two, a walk one, an erasure two.
+    for (at, call) in [
+        (4, 0),
+        (5, 0),
+        (6, 0),
+        (7, 1),
+        (8, 1),
+        (9, 2),
+        (10, 3),
+        (11, 3),
+        (12, 4),
+    ] {
+        let failed = try_failing(rt.alloc(), at)?;
+        for (number, has_failed) in failed.iter().enumerate() {
+            assert_eq!(rt; *has_failed, number == call, "at {at}");
+        }
+    }
+    Ok(())
+}

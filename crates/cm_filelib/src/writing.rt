@@ -1,0 +1,18 @@
+//! Where the writing of a file stands.
+ghost use Rattle.std.specs.Prelude.{◌≡◌, ◌≤◌};
+ghost use Rattle.cm_base.specs.Fed.{count_of};
+
+use cm_base::{FileHasher, Hash};
+
+/// A file that is being written: its hash, its size, where the next piece goes, and a hasher of the bytes put so far.
+#[derive(Drop)]
+pub struct Writing {
+    pub(crate) hash: Hash,
+    pub(crate) size: u32,
+    pub(crate) next: u64,
+    pub(crate) hasher: FileHasher,
+    // A put has failed, so what stands at the place is not known.
+    pub(crate) spent: bool,
+    ghost next_is: { count_of hasher ≡ next },
+    ghost within: { next ≤ size },
+}

@@ -1,0 +1,9 @@
+pub mod CurrentRows
+pub mod DefaultNames
+pub mod Has
+pub mod LaterMinutes
+pub mod Places
+pub mod Reached
+pub mod Repeats
+pub mod RowsMade
+pub mod Soundness

@@ -1,0 +1,9 @@
+pub mod Codes
+pub mod Current
+pub mod Faults
+pub mod Groups
+pub mod Names
+pub mod Reach
+pub mod Rows
+pub mod Targets
+pub mod Texts

@@ -1,0 +1,23 @@
+-- Lists of names, and where a name stands in them.
+use Rattle.std.specs.Prelude.{◌≡◌, ℕ, Bool, List, Option, take, position}
+use Rattle.std.specs.List.{list_any}
+use Rattle.std.specs.Ordering.{nat_cmp}
+use Rattle.std.specs.Cmp.Lexicographic.{slice_cmp}
+use Rattle.std.specs.BTreeMap.{BTreeMap, get}
+use Rattle.std.specs.Str.{bytes_eq}
+
+-- the place of the first entry that has the name
+abbrev pub place_of : List (List ℕ) → List ℕ → Option ℕ
+place_of names name = position (λ other. bytes_eq other name) names
+
+-- an entry has the name
+abbrev pub is_among : List (List ℕ) → List ℕ → Bool
+is_among names name = list_any (λ other. bytes_eq other name) names
+
+-- an entry before that place has the name
+abbrev pub is_before : List (List ℕ) → ℕ → List ℕ → Bool
+is_before names end name = is_among (take end names) name
+
+-- the map has the first place of each name that there is, and no other name
+abbrev pub HasPlaces : List (List ℕ) → BTreeMap (List ℕ) ℕ → Type 0
+HasPlaces names places = (name : List ℕ) → get (slice_cmp nat_cmp) places name ≡ place_of names name

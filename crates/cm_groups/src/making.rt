@@ -1,0 +1,154 @@
+//! Groups from their texts, once these have no fault.
+ghost use Rattle.std.specs.Prelude.{◌≡◌, ◌≤◌, ◌∷◌, ◌++◌, IfOk, OnOk, length, map, All};
+ghost use Rattle.std.specs.List.{filter_map};
+ghost use Rattle.cm_groups.specs.Groups.{boundary_of, default_group, group_of, relation_of};
+ghost use Rattle.cm_groups.specs.Rows.{rows_from};
+ghost use Rattle.cm_groups.specs.Texts.{names_of_rows};
+
+use crate::group::Group;
+use crate::names::Names;
+use crate::{Fallback, GroupText, Options};
+use cm_base::{Label, List, Memory, ServerName};
+use cm_net::Boundary;
+use std::alloc::{AllocError, Global};
+
+/// The boundary of that name.
+fn boundary_of(names: &Names, rows: &[(Label, Boundary)], name: &Label) -> Option<Boundary>
+    requires { names.now ≡ names_of_rows rows.now }
+    ensures { result ≡ boundary_of rows.now name.now }
+{
+    match names.place(name) {
+        Some(place) => Some(rows[place].1),
+        None => None,
+    }
+}
+
+/// The boundaries of these names.
+fn boundaries_of(
+    alloc: Global,
+    names: &Names,
+    rows: &[(Label, Boundary)],
+    wanted: &[Label],
+) -> Result<Vec<Boundary>, AllocError>
+    requires { names.now ≡ names_of_rows rows.now }
+    ensures { IfOk result (λ found. found.items ≡ filter_map (λ name. boundary_of rows.now name) wanted.now) }
+{
+    wanted
+        .iter()
+        .filter_map(|name| boundary_of(names, rows, name))
+        .collect(alloc)
+}
+
+/// The relation by the number of the group.
+fn relation_of(groups: &Names, relation: &(Label, Fallback)) -> Option<(u16, Fallback)>
+    requires { length groups.now ≤ 501 }
+    ensures { result ≡ relation_of groups.now relation.now }
+{
+    match groups.place(&relation.0) {
+        Some(number) => Some((number as u16, relation.1)),
+        None => None,
+    }
+}
+
+/// The relations by the numbers of groups.
+fn relations_of(
+    alloc: Global,
+    groups: &Names,
+    relations: &[(Label, Fallback)],
+) -> Result<Vec<(u16, Fallback)>, AllocError>
+    requires { length groups.now ≤ 501 }
+    ensures { IfOk result (λ found. found.items ≡ filter_map (λ relation. relation_of groups.now relation) relations.now) }
+{
+    relations
+        .iter()
+        .filter_map(|relation| relation_of(groups, relation))
+        .collect(alloc)
+}
+
+/// The group that a text describes.
+fn group_of(
+    alloc: Global,
+    boundaries: &Names,
+    rows: &[(Label, Boundary)],
+    groups: &Names,
+    text: GroupText,
+) -> Result<Group, Memory>
+    requires names { boundaries.now ≡ names_of_rows rows.now }
+    requires few { length groups.now ≤ 501 }
+    ensures { IfOk result (λ made. made ≡ group_of groups.now rows.now text) }
+{
+    let held = boundaries_of(alloc, boundaries, rows, text.boundaries.items())?;
+    let relations = relations_of(alloc, groups, text.relations.items())?;
+    let GroupText {
+        name: _,
+        options,
+        boundaries: _,
+        points,
+        relations: _,
+    } = text;
+    Ok(Group {
+        options,
+        boundaries: List::of(held),
+        points,
+        relations: List::of(relations),
+    })
+}
+
+/// The default group.
+fn default_group(alloc: Global, points: Vec<ServerName>) -> Group
+    ensures { result ≡ default_group points.items }
+{
+    Group {
+        options: Options::default(),
+        boundaries: List::of(Vec::new(alloc)),
+        points: List::of(points),
+        relations: List::of(Vec::new(alloc)),
+    }
+}
+
+/// All groups by their numbers.
+pub(crate) fn groups_of(
+    alloc: Global,
+    boundaries: &Names,
+    rows: &[(Label, Boundary)],
+    groups: &Names,
+    texts: Vec<GroupText>,
+    default_points: Vec<ServerName>,
+) -> Result<Vec<Group>, Memory>
+    requires names { boundaries.now ≡ names_of_rows rows.now }
+    requires few { length groups.now ≤ 501 }
+    ensures { IfOk result (λ made. made.items ≡ default_group default_points.items ∷ map (λ text. group_of groups.now rows.now text) texts.items) }
+{
+    let mut made = Vec::new(alloc);
+    made.push(default_group(alloc, default_points))?;
+    for text in texts {
+        made.push(group_of(alloc, boundaries, rows, groups, text)?)?;
+    }
+    Ok(made)
+}
+
+/// Adds the boundaries of a group with its number.
+fn add_rows(
+    rows: &mut Vec<(Boundary, u16)>,
+    boundaries: &[Boundary],
+    number: u16,
+) -> Result<(), AllocError>
+    ensures { OnOk result (rows.new.items ≡ rows.old.items ++ map (λ boundary. (boundary, number)) boundaries.now) }
+{
+    for boundary in boundaries {
+        rows.push((*boundary, number))?;
+    }
+    Ok(())
+}
+
+/// The boundaries of all groups, each with the number of its group.
+pub(crate) fn rows_of(alloc: Global, groups: &[Group]) -> Result<Vec<(Boundary, u16)>, AllocError>
+    requires { length groups.now ≤ 501 }
+    ensures { IfOk result (λ rows. rows.items ≡ rows_from 0 groups.now) }
+{
+    let mut rows = Vec::new(alloc);
+    for (number, group) in groups.iter().enumerate() {
+        add_rows(&mut rows, group.boundaries.items(), number as u16)?;
+    }
+    Ok(rows)
+}

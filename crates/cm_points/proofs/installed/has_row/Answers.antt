@@ -1,0 +1,18 @@
+-- A search by halves.
+use Rattle.std.proofs.Common.{◌∙◌}
+use Rattle.cm_points.specs.Installs.{is_row}
+use Rattle.cm_points.proofs.Searching.{is_row-row_cmp, found_by_halves}
+use Rattle.cm_points.proofs.installed.has_row.Goals as goal
+
+pub returns : goal.returns
+returns c =
+    c.is_ok.ensures.value
+    ∙ found_by_halves
+    (is_row c.args.row.now.0 c.args.row.now.1 c.args.row.now.2)
+    c.args.row.now
+    (is_row-row_cmp c.args.row.now.0 c.args.row.now.1 c.args.row.now.2)
+    c.args.rows.now
+    c.binary_search.result
+    c.requires
+    c.binary_search.ensures.bound
+    c.binary_search.ensures.position

@@ -1,0 +1,14 @@
+//! Distribution points, what is installed on them, and the choice of a pull point's source.
+#![tactic(auto)]
+
+mod installed;
+mod point;
+mod pulling;
+mod retrying;
+#[cfg(test)]
+mod tests;
+
+pub use installed::Installed;
+pub use point::{Point, PointGroup, PullSource};
+pub use pulling::pull_choice;
+pub use retrying::retry;
