@@ -1,10 +1,10 @@
 -- A job begins, or is finished: the library takes the change.
 use Rattle.std.proofs.Common.{◌≡◌, ℕ, ◌+◌, ◌-◌, ◌*◌, ◌<◌, ◌≤◌, ◌^◌, Bool, true, false, List, [], ◌∷◌, ◌++◌, length, refl, sym, ◌∙◌, ap, subst, arith, length-append, eq-eqb}
-use Rattle.std.specs.Prelude.{◌≢◌, Option, None, Some, is_some, cond, find, filter, not, map, option_map, nat_le, nat_lt, ◌==◌, ◌&&◌}
+use Rattle.std.specs.Prelude.{◌≢◌, Option, None, Some, is_some, cond, find, filter, not, map, option_map, ◌==◌, ◌&&◌}
 use Rattle.std.specs.List.{AllByRecursion}
 use Rattle.std.specs.Str.{bytes_eq}
 use Rattle.std.specs.Int.{w32, w64, to_le_bytes}
-use Rattle.std.proofs.lemmas.Bool.{false≢true, le-leb, leb-true, ltb-false}
+use Rattle.std.proofs.lemmas.Bool.{false≢true, le-leb, leb-true}
 use Rattle.std.proofs.lemmas.List.{length-map}
 use Rattle.std.proofs.lemmas.Slice.Eq.{bytes_eq-Decides}
 use Rattle.sha2.specs.Sha256.{sha256}
@@ -16,7 +16,7 @@ use Rattle.cm_log.specs.declared.shelf.Shelf.TheVariants.{PkgLib}
 use Rattle.cm_log.specs.declared.shelf.Side.{Side}
 use Rattle.cm_log.specs.declared.state.Log.{Log}
 use Rattle.cm_log.specs.Shelves.{ready_place, log_place, IsElsewhere}
-use Rattle.cm_log.specs.Logs.{Entry as Record, Live, closed, shelved}
+use Rattle.cm_log.specs.Logs.{Entry as Record, closed, shelved}
 use Rattle.cm_log.specs.Settled.{shelf_of, place_of, end_of, IsSettled, Adds}
 use Rattle.cm_log.proofs.Shelveds.{alike}
 use Rattle.cm_pkglib.specs.declared.row.PkgRow.{PkgRow}
@@ -28,13 +28,12 @@ use Rattle.cm_pkglib.proofs.Among.{none_of_any, none_of_find, All-append}
 use Rattle.cm_pkglib.proofs.Steps.{may_open}
 use Rattle.cm_tree.specs.declared.entry.Entry.{Entry}
 use Rattle.cm_tree.specs.Manifests.{IsManifest, spelling}
-use Rattle.cm_library.specs.Places.{manifest_place, file_place}
+use Rattle.cm_library.specs.Places.{manifest_place}
 use Rattle.cm_library.specs.State.{Held, State, Begun, Finished, changed, held_of, rows_of}
-use Rattle.cm_library.specs.Look.{Opened, has_room}
+use Rattle.cm_library.specs.Look.{has_room}
 use Rattle.cm_library.specs.Sound.{IsNamed, AreNamed}
-use Rattle.cm_library.specs.Faults.{most_end}
 use Rattle.cm_library.specs.Open.{StandsIn}
-use Rattle.cm_library.proofs.Elsewhere.{manifest_no_log, manifest_no_file, manifest_names, file_no_log}
+use Rattle.cm_library.proofs.Elsewhere.{manifest_no_log, manifest_names}
 use Rattle.cm_library.proofs.Keeping.{no_some}
 use Rattle.cm_library.proofs.Loaded.{HasHeld, HasJob, row_of, job_of, same_manifest, manifest_held, rows_begun, rows_finished, finished_versions, finished_jobs}
 use Rattle.cm_library.proofs.Replaying.{grounds_of}

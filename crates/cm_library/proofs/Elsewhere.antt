@@ -1,5 +1,5 @@
 -- The places of manifests, of files and of the log are apart.
-use Rattle.std.proofs.Common.{◌≡◌, ℕ, ◌+◌, ◌<◌, ◌^◌, List, [], ◌∷◌, ◌++◌, length, take, drop, get_or, refl, sym, ◌∙◌, ap, subst, arith, length-append}
+use Rattle.std.proofs.Common.{◌≡◌, ℕ, ◌+◌, ◌<◌, ◌^◌, List, [], ◌∷◌, ◌++◌, length, take, drop, get_or, sym, ◌∙◌, ap, arith, length-append}
 use Rattle.std.specs.Prelude.{◌≢◌, codes}
 use Rattle.std.specs.Fmt.{decimal}
 use Rattle.std.specs.Result.{result_ok}
@@ -13,7 +13,8 @@ use Rattle.cm_log.specs.declared.shelf.Shelf.TheVariants.{PkgLib}
 use Rattle.cm_log.specs.declared.shelf.Side.{Side}
 use Rattle.cm_log.specs.declared.shelf.Side.TheVariants.{First, Second}
 use Rattle.cm_log.specs.Shelves.{ready_place, log_place}
-use Rattle.cm_library.specs.Places.{manifest_place, file_place}
+use Rattle.cm_filelib.specs.Places.{file_place}
+use Rattle.cm_library.specs.Places.{manifest_place}
 
 -- by their first letters: D, F, P
 pub manifest_no_file : (id : List ℕ) (version : ℕ) (hash : List ℕ) → manifest_place id version ≢ file_place hash

@@ -1,19 +1,18 @@
 -- What is kept in memory is a state, before and after a change.
-use Rattle.std.proofs.Common.{◌≡◌, ℕ, ◌+◌, ◌<◌, ◌≤◌, Bool, true, false, List, [], ◌∷◌, ◌++◌, length, refl, sym, ◌∙◌, ap, subst, arith, length-append, eq-eqb}
-use Rattle.std.specs.Prelude.{Option, None, Some, is_some, IsSome, option_map, map, filter, find, not, cond, unwrap_or, ◌==◌, ◌&&◌, Result, Ok, Err, IsOk, OnOk, OnErr}
-use Rattle.std.specs.List.{AllByRecursion, list_any}
+use Rattle.std.proofs.Common.{◌≡◌, ℕ, ◌+◌, ◌≤◌, Bool, true, false, List, [], ◌∷◌, ◌++◌, length, refl, sym, ◌∙◌, ap, subst, arith, length-append, eq-eqb}
+use Rattle.std.specs.Prelude.{Option, None, Some, IsSome, option_map, map, filter, find, not, cond, unwrap_or, ◌==◌, ◌&&◌, Result, Ok, Err, IsOk, OnOk, OnErr}
+use Rattle.std.specs.List.{AllByRecursion}
 use Rattle.std.specs.Str.{bytes_eq}
-use Rattle.std.specs.Ordering.{nat_cmp, is_eq}
-use Rattle.std.specs.BTreeMap.{BTreeMap, Updates, get}
+use Rattle.std.specs.Ordering.{is_eq}
+use Rattle.std.specs.BTreeMap.{BTreeMap, Updates}
 use Rattle.std.proofs.lemmas.Bool.{eqb-true, false≢true}
-use Rattle.std.proofs.lemmas.Option.{same_Some, none-some}
+use Rattle.std.proofs.lemmas.Option.{none-some}
 use Rattle.std.proofs.lemmas.List.{map-append, length-map}
 use Rattle.std.proofs.lemmas.Slice.Eq.{bytes_eq-Decides}
 use Rattle.sha2.specs.Sha256.{sha256}
-use Rattle.cm_base.specs.declared.hash.Hash.{Hash}
 use Rattle.cm_pkglib.specs.declared.row.PkgRow.{PkgRow}
 use Rattle.cm_pkglib.specs.declared.change.Change.TheVariants.{Opened, Done}
-use Rattle.cm_pkglib.specs.Rows.{Rows, is_of, is_before, has_version, job_with, opened_fault, fault_of, with_row, with_done, after}
+use Rattle.cm_pkglib.specs.Rows.{Rows, is_of, is_before, opened_fault, fault_of, with_row, with_done, after}
 use Rattle.cm_pkglib.proofs.Among.{none_of_any, none_of_find}
 use Rattle.cm_pkglib.proofs.Orders.{is_of-version_cmp}
 use Rattle.cm_pkglib.proofs.Steps.{may_open}
@@ -22,7 +21,7 @@ use Rattle.cm_tree.specs.Manifests.{spelling}
 use Rattle.cm_library.specs.declared.row.VersionRow.{VersionRow}
 use Rattle.cm_library.specs.declared.row.JobRow.{JobRow}
 use Rattle.cm_library.specs.State.{Held, State, Begun, Finished, changed, held_of, rows_of, with_held, with_done as with_held_done, version_row, job_row, version_rows, job_rows, bytes_of}
-use Rattle.cm_library.specs.Contents.{held_with, job_held_with, state_with, key_cmp, manifest_in_map, PutsManifest, told_before, with_told, finished_row, with_told_done, AreTold}
+use Rattle.cm_library.specs.Contents.{held_with, job_held_with, state_with, key_cmp, PutsManifest, told_before, with_told, finished_row, with_told_done, AreTold}
 use Rattle.cm_library.proofs.Lists.{over_cond, map_back, map_map, find_map, filter_map}
 use Rattle.cm_library.proofs.Loaded.{row_of, job_of, rows_same}
 

@@ -21,3 +21,4 @@ pub mod Steps
 pub mod StoredTree
 pub mod TreeLaw
 pub mod Unopened
+pub mod PutSoFar

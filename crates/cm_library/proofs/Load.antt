@@ -1,11 +1,9 @@
 -- A file is read whole.
-use Rattle.std.proofs.Common.{◌≡◌, ℕ, ◌≤◌, Bool, true, false, min, List, length, take, drop, refl, sym, ◌∙◌, ap, subst, arith}
-use Rattle.std.specs.Prelude.{Option, None, Some, option_map}
-use Rattle.std.specs.Option.{option_and_then}
+use Rattle.std.proofs.Common.{◌≡◌, ℕ, List, length, take, sym, ◌∙◌, ap, arith}
+use Rattle.std.specs.Prelude.{None, Some, option_map}
 use Rattle.std.proofs.lemmas.Option.{same_Some, none-some}
-use Rattle.std.proofs.lemmas.Bool.{false≢true}
 use Rattle.std.proofs.lemmas.List.{take_all}
-use Rattle.cm_disk.specs.Disk.{File, Files, Reads}
+use Rattle.cm_disk.specs.Disk.{File, Reads}
 
 pub whole_read : (file : File) (buffer : List ℕ) (count : ℕ) → option_map length file ≡ Some (length buffer) → Reads file 0 buffer count → (count ≡ length buffer) × (file ≡ Some buffer)
 whole_read None buffer count long r = absurd (none-some (length buffer) long)

@@ -1,6 +1,6 @@
 -- Stored manifests, kept in a map.
 use Rattle.std.proofs.Common.{◌≡◌, ℕ, Bool, true, false, List, [], ◌∷◌, ◌++◌, length, suc, ◌+◌, ◌<◌, take, drop, get_or, refl, sym, ◌∙◌, ap, subst, add-one}
-use Rattle.std.specs.Prelude.{Option, None, Some, option_map, map, cond, Result, Ok, Err, ◌==◌, ◌&&◌}
+use Rattle.std.specs.Prelude.{Option, None, Some, option_map, map, Result, Ok, Err, ◌==◌, ◌&&◌}
 use Rattle.std.specs.Option.{option_and_then}
 use Rattle.std.specs.List.{AllByRecursion}
 use Rattle.std.specs.Str.{bytes_eq}
@@ -8,7 +8,7 @@ use Rattle.std.proofs.lemmas.Bool.{eqb-true}
 use Rattle.std.proofs.lemmas.Option.{same_Some}
 use Rattle.std.proofs.lemmas.Slice.Eq.{bytes_eq-Decides}
 use Rattle.sha2.specs.Sha256.{sha256}
-use Rattle.cm_disk.specs.Disk.{File, Files}
+use Rattle.cm_disk.specs.Disk.{Files}
 use Rattle.cm_pkglib.specs.declared.row.PkgRow.{PkgRow}
 use Rattle.cm_pkglib.specs.Rows.{Rows, is_of}
 use Rattle.std.proofs.lemmas.List.{take-append-drop}
@@ -18,10 +18,10 @@ use Rattle.cm_tree.specs.declared.entry.Entry.{Entry}
 use Rattle.cm_tree.specs.declared.tree_fault.TreeFault.{TreeFault}
 use Rattle.cm_tree.specs.Reading.{read_manifest}
 use Rattle.cm_library.specs.Places.{manifest_place}
-use Rattle.cm_library.specs.State.{Held, State}
-use Rattle.cm_library.specs.Look.{counted, manifest_in, held, both, all_held, all_jobs, state_of, loaded}
-use Rattle.cm_library.specs.Contents.{held_with, job_held_with, state_with, manifest_in_map, PutsManifest}
-use Rattle.cm_library.specs.Loads.{Map, IsKept, StaysKept, TakesOne, Loads}
+use Rattle.cm_library.specs.State.{Held}
+use Rattle.cm_library.specs.Look.{counted, manifest_in, held, both, all_held, all_jobs, state_of}
+use Rattle.cm_library.specs.Contents.{held_with, job_held_with, manifest_in_map, PutsManifest}
+use Rattle.cm_library.specs.Loads.{Map, IsKept, TakesOne, Loads}
 use Rattle.cm_library.proofs.Replaying.{cond_some, then_some}
 use Rattle.cm_library.proofs.Keeping.{and_left, and_right}
 

@@ -1,6 +1,6 @@
 -- What is answered for files that are no library is what is named of them.
 use Rattle.std.proofs.Common.{◌≡◌, ℕ, List, sym, ◌∙◌, ap}
-use Rattle.std.specs.Prelude.{Result, Err, IsErrOf}
+use Rattle.std.specs.Prelude.{Err, IsErrOf}
 use Rattle.cm_log.specs.declared.shelf.Shelf.TheVariants.{PkgLib}
 use Rattle.cm_log.specs.declared.shelf.Side.TheVariants.{First}
 use Rattle.cm_log.specs.Shelves.{log_place}

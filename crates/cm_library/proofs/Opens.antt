@@ -1,13 +1,10 @@
 -- A library is opened.
-use Rattle.std.proofs.Common.{◌≡◌, ℕ, Bool, true, false, List, [], ◌∷◌, refl, sym, ◌∙◌, ap, subst}
-use Rattle.std.specs.Prelude.{Option, None, Some, cond, Result, Err, IsErrOf}
-use Rattle.std.specs.Option.{option_and_then}
+use Rattle.std.proofs.Common.{◌≡◌, ℕ, Bool, true, false, List, refl, sym, ◌∙◌, ap}
+use Rattle.std.specs.Prelude.{Option, None, Some, cond}
 use Rattle.cm_disk.specs.Disk.{File, Files}
 use Rattle.cm_log.specs.declared.shelf.Shelf.TheVariants.{PkgLib}
-use Rattle.cm_log.specs.declared.shelf.Side.TheVariants.{First}
 use Rattle.cm_log.specs.declared.position.LogReader.{LogReader}
-use Rattle.cm_log.specs.Shelves.{log_place}
-use Rattle.cm_log.specs.Logs.{Entry as Record, Ending, Closed, Broken, Reading, Shelved, Unread, Live, ended, shelved}
+use Rattle.cm_log.specs.Logs.{Reading, Shelved, Unread, Live, shelved}
 use Rattle.cm_log.specs.Settled.{reader_place, reader_at, has_ended, rest_of, IsReading}
 use Rattle.cm_pkglib.specs.Rows.{Rows, no_rows}
 use Rattle.cm_library.specs.State.{State}

@@ -1,10 +1,8 @@
 -- Hashes in a set, and the entries that are to be stored.
-use Rattle.std.proofs.Common.{◌≡◌, ◌⊎◌, inl, inr, ℕ, zero, suc, ◌+◌, ◌<◌, Bool, true, false, List, [], ◌∷◌, ◌++◌, length, take, get_or, refl, sym, ◌∙◌, ap, subst, arith}
-use Rattle.std.specs.Prelude.{Option, None, Some, cond, map, slice_get, Contains, ◌||◌, if◌then◌else◌, Result, Ok, Err, IfOk}
+use Rattle.std.proofs.Common.{◌≡◌, ◌⊎◌, inl, inr, ℕ, zero, suc, ◌+◌, ◌<◌, Bool, true, false, List, [], ◌∷◌, ◌++◌, length, take, get_or, refl, sym, ◌∙◌, ap, arith}
+use Rattle.std.specs.Prelude.{Some, cond, map, slice_get, ◌||◌, if◌then◌else◌, Result, Ok, Err, IfOk}
 use Rattle.std.specs.List.{AllByRecursion, list_any}
 use Rattle.std.specs.Str.{bytes_eq}
-use Rattle.std.specs.Ordering.{nat_cmp, is_eq}
-use Rattle.std.specs.Cmp.Lexicographic.{slice_cmp}
 use Rattle.std.specs.BTreeSet.{BTreeSet, Updates, contains}
 use Rattle.std.proofs.lemmas.Bool.{false≢true}
 use Rattle.std.proofs.lemmas.List.{take_more}
@@ -13,13 +11,11 @@ use Rattle.std.proofs.lemmas.List.Elements.{Contains-append_left, Contains-appen
 use Rattle.std.proofs.lemmas.Map.Text.{is_eq-slice_cmp}
 use Rattle.std.proofs.lemmas.Slice.Eq.{bytes_eq-Decides}
 use Rattle.cm_base.specs.declared.hash.Hash.{Hash}
-use Rattle.cm_pkglib.specs.declared.row.PkgRow.{PkgRow}
 use Rattle.cm_pkglib.proofs.Among.{All-map, All-append}
 use Rattle.cm_tree.specs.declared.entry.Entry.{Entry}
-use Rattle.cm_library.specs.Changes.{has_hash, is_named}
-use Rattle.cm_library.specs.Contents.{held_with, manifest_in_map}
-use Rattle.cm_library.specs.Plans.{hash_cmp, IsFresh, IsPlanned, IsPlan}
-use Rattle.cm_library.proofs.Members.{Passes, passing, at_member, first_member}
+use Rattle.cm_library.specs.Changes.{has_hash}
+use Rattle.cm_library.specs.Plans.{hash_cmp, IsFresh, IsPlanned}
+use Rattle.cm_library.proofs.Members.{passing, at_member, first_member}
 use Rattle.cm_library.proofs.MapKept.{all_next}
 
 or_false : (b : Bool) → (b || false) ≡ b

@@ -1,6 +1,6 @@
 -- A library stays in use.
-use Rattle.std.proofs.Common.{◌≡◌, ℕ, ◌+◌, ◌-◌, ◌<◌, ◌≤◌, ◌^◌, Bool, true, false, List, [], ◌∷◌, ◌++◌, length, refl, sym, ◌∙◌, ap, subst, arith, length-append}
-use Rattle.std.specs.Prelude.{◌≢◌, Option, None, Some, nat_lt, cond}
+use Rattle.std.proofs.Common.{◌≡◌, ℕ, ◌+◌, ◌-◌, ◌<◌, ◌≤◌, ◌^◌, Bool, true, false, List, ◌∷◌, ◌++◌, length, refl, sym, ◌∙◌, ap, subst, arith, length-append}
+use Rattle.std.specs.Prelude.{Option, None, Some, nat_lt, cond}
 use Rattle.std.proofs.lemmas.Bool.{ltb-false}
 use Rattle.std.specs.Int.{w32, w64, to_le_bytes}
 use Rattle.cm_base.specs.declared.hash.Hash.{Hash}
@@ -9,22 +9,23 @@ use Rattle.cm_disk.proofs.Puts.{put_there}
 use Rattle.cm_log.specs.declared.shelf.Shelf.TheVariants.{PkgLib}
 use Rattle.cm_log.specs.declared.state.Log.{Log}
 use Rattle.cm_log.specs.Logs.{closed}
-use Rattle.cm_log.specs.Settled.{shelf_of, place_of, end_of, is_settled, IsSettled, Adds}
+use Rattle.cm_log.specs.Settled.{shelf_of, place_of, end_of, is_settled, Adds}
 use Rattle.cm_pkglib.specs.declared.row.PkgRow.{PkgRow}
 use Rattle.cm_pkglib.specs.declared.change.Change.{Change}
 use Rattle.cm_pkglib.specs.declared.change.Change.TheVariants.{Opened as OpenedChange, Done}
 use Rattle.cm_pkglib.specs.declared.fault.RowFault.{RowFault}
 use Rattle.cm_pkglib.specs.Changes.{spelled}
-use Rattle.cm_pkglib.specs.Rows.{Rows, opened_fault, fault_of, after}
+use Rattle.cm_pkglib.specs.Rows.{opened_fault, fault_of}
 use Rattle.cm_pkglib.specs.Valid.{AreValid}
 use Rattle.cm_tree.specs.declared.entry.Entry.{Entry}
 use Rattle.cm_tree.specs.Manifests.{spelling}
 use Rattle.cm_library.specs.declared.fault.LibFault.{LibFault}
-use Rattle.cm_library.specs.Places.{manifest_place, file_place}
+use Rattle.cm_filelib.specs.Places.{file_place}
+use Rattle.cm_library.specs.Places.{manifest_place}
 use Rattle.cm_library.specs.State.{State, Begun, Finished, changed, held_of, rows_of}
 use Rattle.cm_library.specs.Look.{has_room}
-use Rattle.cm_library.specs.Sound.{AreSound, IsSound, AreNamed, AreFit}
-use Rattle.cm_library.specs.Faults.{most_end, of_row_fault, spent_or}
+use Rattle.cm_library.specs.Sound.{AreFit}
+use Rattle.cm_library.specs.Faults.{most_end, spent_or}
 use Rattle.cm_library.specs.Open.{StandsIn, IsReady}
 use Rattle.cm_library.proofs.Elsewhere.{manifest_no_file, file_no_log}
 use Rattle.cm_library.proofs.Loaded.{rows_begun, rows_finished}

@@ -3,12 +3,11 @@ use Rattle.std.proofs.Common.{◌≡◌, ℕ, ◌+◌, Bool, true, false, List, 
 use Rattle.std.specs.Prelude.{Option, None, Some, is_some, cond}
 use Rattle.std.specs.Option.{option_and_then}
 use Rattle.std.specs.List.{AllByRecursion}
-use Rattle.std.proofs.lemmas.Option.{same_Some}
-use Rattle.cm_disk.specs.Disk.{File, Files}
+use Rattle.cm_disk.specs.Disk.{Files}
 use Rattle.cm_log.specs.declared.shelf.Shelf.TheVariants.{PkgLib}
 use Rattle.cm_log.specs.declared.shelf.Side.{Side}
 use Rattle.cm_log.specs.Shelves.{ready_place, log_place}
-use Rattle.cm_log.specs.Logs.{Entry as Record, Ending, Closed, Broken, Reading, Shelved, NoLog, Unread, Live, closed, following, shelved, added}
+use Rattle.cm_log.specs.Logs.{Entry as Record, Ending, Closed, Broken, Shelved, NoLog, Unread, Live, closed, shelved, added}
 use Rattle.cm_log.proofs.Shelveds.{alike}
 use Rattle.cm_pkglib.specs.declared.change.Change.{Change}
 use Rattle.cm_pkglib.specs.declared.row.PkgRow.{PkgRow}
@@ -17,7 +16,7 @@ use Rattle.cm_pkglib.specs.Changes.{read_change}
 use Rattle.cm_pkglib.specs.Rows.{Rows, no_rows, fault_of, after, step}
 use Rattle.cm_library.specs.Places.{manifest_place}
 use Rattle.cm_library.specs.State.{Held, State, rows_of}
-use Rattle.cm_library.specs.Look.{Library, Missing, Opened, Unreadable, known, change_of, rows_after, rows_from, has_room, held, both, all_held, all_jobs, state_of, loaded, unreadable, opened_or, ended_or, library_from, look_at, look}
+use Rattle.cm_library.specs.Look.{Opened, known, rows_after, rows_from, has_room, held, both, all_held, all_jobs, state_of, loaded, opened_or, ended_or, look_at, look}
 use Rattle.cm_library.proofs.Loaded.{HasHeld, HasJob, loaded_is, loaded_state, same_manifest}
 
 -- once a record is refused there are no rows

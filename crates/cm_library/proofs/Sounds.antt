@@ -1,18 +1,17 @@
 -- A library that is opened is sound.
-use Rattle.std.proofs.Common.{◌≡◌, ℕ, Bool, true, false, List, [], ◌∷◌, refl, sym, ◌∙◌, ap, subst}
+use Rattle.std.proofs.Common.{◌≡◌, ℕ, List, [], ◌∷◌, refl, sym, ◌∙◌, ap, subst}
 use Rattle.std.specs.Prelude.{Option, None, Some, is_some, cond}
-use Rattle.std.specs.Option.{option_and_then}
 use Rattle.std.proofs.lemmas.Option.{same_Some, none-some}
 use Rattle.cm_disk.specs.Disk.{Files}
 use Rattle.cm_log.specs.declared.shelf.Shelf.TheVariants.{PkgLib}
-use Rattle.cm_log.specs.Logs.{Entry as Record, Ending, Closed, Broken, Reading, Shelved, NoLog, Unread, Live, shelved}
+use Rattle.cm_log.specs.Logs.{Entry as Record, Ending, Closed, Broken, Shelved, NoLog, Unread, Live, shelved}
 use Rattle.cm_pkglib.specs.declared.change.Change.{Change}
 use Rattle.cm_pkglib.specs.declared.fault.RowFault.{RowFault}
 use Rattle.cm_pkglib.specs.Rows.{Rows, no_rows, fault_of, after, step}
 use Rattle.cm_pkglib.specs.Valid.{AreValid}
 use Rattle.cm_pkglib.proofs.Replays.{no_rows_valid, after_valid}
-use Rattle.cm_library.specs.State.{State, rows_of}
-use Rattle.cm_library.specs.Look.{Library, Missing, Opened, change_of, rows_after, rows_from, has_room, loaded, ended_or, look_at, look}
+use Rattle.cm_library.specs.State.{State}
+use Rattle.cm_library.specs.Look.{Opened, change_of, rows_after, rows_from, has_room, loaded, ended_or, look_at, look}
 use Rattle.cm_library.specs.Sound.{AreSound, IsSound}
 use Rattle.cm_library.proofs.Loaded.{loaded_is}
 use Rattle.cm_library.proofs.Replaying.{rows_none, ended_some, not_broken, then_some, cond_some}

@@ -1,31 +1,29 @@
 -- A library stands in its files, before and after a call.
-use Rattle.std.proofs.Common.{◌≡◌, ℕ, ◌+◌, ◌*◌, ◌<◌, ◌≤◌, ◌^◌, Bool, true, false, List, [], ◌∷◌, ◌++◌, length, refl, sym, ◌∙◌, ap, subst, arith, length-append}
-use Rattle.std.specs.Prelude.{◌≢◌, Option, None, Some, cond, find, filter, not, is_some, ◌==◌}
+use Rattle.std.proofs.Common.{◌≡◌, ℕ, ◌+◌, true, List, length, sym, ◌∙◌, ap, subst}
+use Rattle.std.specs.Prelude.{◌≢◌, None, Some}
 use Rattle.std.specs.List.{AllByRecursion}
-use Rattle.std.proofs.lemmas.Option.{same_Some}
-use Rattle.std.proofs.lemmas.List.{length-map}
-use Rattle.cm_disk.specs.Disk.{File, Files, Only, put}
-use Rattle.cm_disk.proofs.Puts.{put_here, put_there}
+use Rattle.cm_disk.specs.Disk.{File, Files, put}
+use Rattle.cm_disk.proofs.Puts.{put_there}
 use Rattle.cm_log.specs.declared.shelf.Shelf.{Shelf}
 use Rattle.cm_log.specs.declared.shelf.Shelf.TheVariants.{PkgLib}
 use Rattle.cm_log.specs.declared.shelf.Side.{Side}
 use Rattle.cm_log.specs.declared.state.Log.{Log}
 use Rattle.cm_log.specs.Shelves.{ready_place, log_place, IsElsewhere}
 use Rattle.cm_log.specs.Logs.{Entry as Record, Reading, Shelved, Live, closed, shelved, added}
-use Rattle.cm_log.specs.Settled.{shelf_of, place_of, end_of, is_settled, Rests, EndsIn, IsSettled, Adds}
+use Rattle.cm_log.specs.Settled.{shelf_of, place_of, end_of, EndsIn, IsSettled, Adds}
 use Rattle.cm_log.proofs.Shelveds.{alike, lives}
 use Rattle.cm_pkglib.specs.declared.change.Change.{Change}
-use Rattle.cm_pkglib.specs.declared.change.Change.TheVariants.{Opened as OpenedChange, Done}
-use Rattle.cm_pkglib.specs.Changes.{spelled, read_change, IsChange}
-use Rattle.cm_pkglib.specs.Rows.{Rows, no_rows, fault_of, after}
+use Rattle.cm_pkglib.specs.Changes.{spelled, IsChange}
+use Rattle.cm_pkglib.specs.Rows.{no_rows, fault_of, after}
 use Rattle.cm_pkglib.proofs.Records.{read_spelled}
-use Rattle.cm_library.specs.Places.{manifest_place, file_place}
-use Rattle.cm_library.specs.State.{Held, State, StateChange, Begun, Finished, changed, rows_of}
-use Rattle.cm_library.specs.Look.{Opened, known, has_room, look, rows_from}
+use Rattle.cm_filelib.specs.Places.{file_place}
+use Rattle.cm_library.specs.Places.{manifest_place}
+use Rattle.cm_library.specs.State.{State, rows_of}
+use Rattle.cm_library.specs.Look.{known, has_room, rows_from}
 use Rattle.cm_library.specs.Open.{StandsIn}
-use Rattle.cm_library.proofs.Elsewhere.{manifest_no_file, manifest_no_ready, manifest_no_log, file_no_ready, file_no_log, manifest_names}
-use Rattle.cm_library.proofs.Loaded.{HasHeld, HasJob, same_manifest}
-use Rattle.cm_library.proofs.Replaying.{Grounds, grounds_of, record_more, look_same}
+use Rattle.cm_library.proofs.Elsewhere.{manifest_no_file, manifest_no_ready, manifest_no_log, file_no_ready, file_no_log}
+use Rattle.cm_library.proofs.Loaded.{HasHeld, HasJob}
+use Rattle.cm_library.proofs.Replaying.{record_more, look_same}
 
 -- a place that is none of the log's three
 pub manifest_elsewhere : (id : List ℕ) (version : ℕ) → IsElsewhere PkgLib (manifest_place id version)

@@ -1,14 +1,13 @@
 -- One record after another, of a log that is read.
-use Rattle.std.proofs.Common.{◌≡◌, ℕ, Bool, true, false, List, [], ◌∷◌, ◌++◌, refl, sym, ◌∙◌, ap, subst}
+use Rattle.std.proofs.Common.{◌≡◌, ℕ, true, List, [], ◌∷◌, sym, ◌∙◌, ap}
 use Rattle.std.specs.Prelude.{Option, None, Some}
-use Rattle.std.specs.Option.{option_and_then}
 use Rattle.cm_disk.specs.Disk.{Files}
 use Rattle.cm_log.specs.declared.shelf.Shelf.{Shelf}
-use Rattle.cm_log.specs.Logs.{Entry as Record, Ending, Closed, Broken, Reading, Shelved, NoLog, Unread, Live, ended, following, shelved}
+use Rattle.cm_log.specs.Logs.{Ending, Closed, Broken, Reading, Shelved, NoLog, Unread, Live, ended, following, shelved}
 use Rattle.cm_log.specs.declared.position.LogReader.{LogReader}
 use Rattle.cm_log.specs.Settled.{reader_shelf, reader_place, reader_at, has_ended, rest_of, IsReading}
 use Rattle.cm_pkglib.specs.Rows.{Rows}
-use Rattle.cm_library.specs.Look.{Library, Unreadable, unreadable, rows_from, ended_or, library_from}
+use Rattle.cm_library.specs.Look.{Unreadable, unreadable, rows_from, ended_or, library_from}
 use Rattle.cm_library.specs.Replay.{rows_after_body}
 use Rattle.cm_library.proofs.Replaying.{rows_none}
 

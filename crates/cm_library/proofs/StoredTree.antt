@@ -1,6 +1,6 @@
 -- The files of a tree are stored one after another.
 use Rattle.std.proofs.Common.{◌≡◌, ◌⊎◌, inl, inr, ℕ, zero, suc, ◌+◌, ◌<◌, take, get_or, Bool, true, false, List, [], ◌∷◌, ◌++◌, length, refl, sym, ◌∙◌, ap, subst, arith, eq-eqb}
-use Rattle.std.specs.Prelude.{◌≢◌, Option, None, Some, is_some, cond, map, find, slice_get, option_map, Contains, not, Result, Err, ◌==◌}
+use Rattle.std.specs.Prelude.{Option, None, Some, is_some, cond, map, find, slice_get, option_map, Contains, not, Err, ◌==◌}
 use Rattle.std.specs.List.{AllByRecursion}
 use Rattle.std.specs.Str.{bytes_eq}
 use Rattle.std.proofs.lemmas.Bool.{false≢true}
@@ -13,7 +13,7 @@ use Rattle.cm_disk.specs.Disk.{Files}
 use Rattle.cm_pkglib.proofs.Among.{All-map}
 use Rattle.cm_tree.specs.declared.entry.Entry.{Entry}
 use Rattle.cm_tree.specs.Trees.{File, entry_of, manifest_of}
-use Rattle.cm_library.specs.Places.{file_place}
+use Rattle.cm_filelib.specs.Places.{file_place}
 use Rattle.cm_pkglib.specs.declared.row.PkgRow.{PkgRow}
 use Rattle.cm_pkglib.specs.declared.change.Change.TheVariants.{Done}
 use Rattle.cm_pkglib.specs.declared.fault.RowFault.TheVariants.{NoJob}
@@ -25,7 +25,7 @@ use Rattle.cm_library.specs.State.{State, Begun, changed, held_of, rows_of}
 use Rattle.cm_library.proofs.Loaded.{rows_begun}
 use Rattle.cm_tree.specs.declared.gathered.GatheredFile.{GatheredFile}
 use Rattle.cm_tree.specs.GatheredFiles.{file_of, files_of}
-use Rattle.cm_library.specs.Changes.{Told, is_named, KeepsStore, KeepsFiles, IsStored, StoresTree, StoresPlan, AddsTree, Puts}
+use Rattle.cm_library.specs.Changes.{Told, is_named, KeepsStore, KeepsFiles, IsStored, StoresPlan, AddsTree, Puts}
 use Rattle.cm_library.specs.Plans.{IsFresh, IsPlanned, IsPlan}
 use Rattle.cm_library.proofs.Elsewhere.{file_names}
 use Rattle.cm_library.proofs.Digests.{sha256_bytes}

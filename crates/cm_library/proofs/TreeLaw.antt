@@ -1,21 +1,21 @@
 -- A tree that is added as a version.
-use Rattle.std.proofs.Common.{◌≡◌, ◌⊎◌, inl, inr, ℕ, ◌+◌, ◌<◌, Bool, true, false, List, [], ◌∷◌, ◌++◌, length, refl, sym, ◌∙◌, ap, subst, arith, eq-eqb, ne_eqb}
-use Rattle.std.specs.Prelude.{Option, None, Some, option_map, map, find, filter, not, cond, Contains, ◌==◌}
-use Rattle.std.specs.List.{AllByRecursion, flat_map, list_any}
+use Rattle.std.proofs.Common.{◌≡◌, ◌⊎◌, inl, inr, ℕ, ◌<◌, Bool, true, false, List, [], ◌∷◌, ◌++◌, refl, sym, ◌∙◌, ap, arith, eq-eqb, ne_eqb}
+use Rattle.std.specs.Prelude.{Option, Some, option_map, map, not, cond, Contains, ◌==◌}
+use Rattle.std.specs.List.{AllByRecursion}
 use Rattle.std.specs.Str.{bytes_eq}
 use Rattle.std.proofs.lemmas.Slice.Eq.{bytes_eq-Decides}
 use Rattle.std.proofs.lemmas.List.Elements.{Contains-append_left, Contains-append_right}
 use Rattle.sha2.specs.Sha256.{sha256}
 use Rattle.cm_disk.specs.Disk.{Files}
 use Rattle.cm_pkglib.specs.declared.row.PkgRow.{PkgRow}
-use Rattle.cm_pkglib.specs.Rows.{is_before, with_last}
+use Rattle.cm_pkglib.specs.Rows.{is_before}
 use Rattle.cm_tree.specs.declared.entry.Entry.{Entry}
 use Rattle.cm_tree.specs.Trees.{File, Apart, entry_of, manifest_of}
-use Rattle.cm_library.specs.Places.{file_place}
-use Rattle.cm_library.specs.State.{Held, State, Begun, Finished, held_of, with_held, with_done, held_by_job, without_job, changed, replayed, rows_of}
+use Rattle.cm_filelib.specs.Places.{file_place}
+use Rattle.cm_library.specs.State.{Held, State, with_held, with_done, held_by_job, replayed}
 use Rattle.cm_library.specs.Look.{look, Opened}
-use Rattle.cm_library.specs.Changes.{is_named, has_hash, KeepsFiles, IsStored, StoresTree, AddsTree}
-use Rattle.cm_library.specs.Sound.{AreSound, IsSound}
+use Rattle.cm_library.specs.Changes.{is_named, has_hash, KeepsFiles, IsStored, AddsTree}
+use Rattle.cm_library.specs.Sound.{IsSound}
 use Rattle.cm_library.specs.Whole.{Version, Trees, outline, HasTree, Opens, held_version, with_version, with_tree, bytes_of_tree, bytes_of_trees, changes_of_add}
 use Rattle.cm_library.proofs.Lists.{over_cond, find_last, filter_all_last}
 use Rattle.cm_library.proofs.Members.{each_member, at_member, map_member, flat_member, any_member, passing}

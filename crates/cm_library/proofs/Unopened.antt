@@ -1,6 +1,6 @@
 -- A package that was never opened has no version and no unfinished job, so that only a limit refuses it.
 use Rattle.std.proofs.Common.{◌≡◌, ℕ, ◌+◌, ◌^◌, ◌-◌, Bool, true, false, nat_le, nat_lt, List, [], ◌∷◌, length, refl, sym, ◌∙◌, ap, subst}
-use Rattle.std.specs.Prelude.{Option, None, Some, ◌==◌, ◌&&◌, ◌||◌, not, find, option_map, if◌then◌else◌, Result}
+use Rattle.std.specs.Prelude.{Option, None, Some, ◌==◌, ◌&&◌, ◌||◌, not, option_map, if◌then◌else◌, Result}
 use Rattle.std.specs.List.{AllByRecursion, list_any}
 use Rattle.std.specs.Str.{bytes_eq}
 use Rattle.std.proofs.lemmas.Bool.{eq-eqb}
@@ -10,11 +10,11 @@ use Rattle.std.proofs.lemmas.List.{length-map}
 use Rattle.cm_pkglib.specs.declared.row.PkgRow.{PkgRow}
 use Rattle.cm_pkglib.specs.declared.fault.RowFault.{RowFault}
 use Rattle.cm_pkglib.specs.declared.fault.RowFault.TheVariants.{VersionThere, JobThere, TooManyVersions, TooManyEntries, TooManyJobs, WrongJob}
-use Rattle.cm_pkglib.specs.Rows.{is_of, last_of, has_version, job_with, all_versions, all_entries, when, first_of, opened_fault}
+use Rattle.cm_pkglib.specs.Rows.{is_of, last_of, job_with, all_versions, all_entries, when, first_of}
 use Rattle.cm_library.specs.declared.fault.LibFault.{LibFault}
-use Rattle.cm_library.specs.Faults.{of_row_fault, spent_or, begin_fault, limit_fault, Refuses}
+use Rattle.cm_library.specs.Faults.{spent_or, begin_fault, limit_fault, Refuses}
 use Rattle.cm_library.specs.Sound.{IsCovered, IsSound}
-use Rattle.cm_library.specs.State.{Held, State, rows_of, count_in, entries_in}
+use Rattle.cm_library.specs.State.{Held, State, rows_of, count_in}
 use Rattle.cm_library.proofs.Lists.{find_none}
 
 module _ (id : List ℕ) (version : ℕ) (lasts : List (List ℕ × ℕ)) (new : last_of id lasts ≡ None) where

@@ -7,7 +7,7 @@ use Rattle.sha2.specs.Sha256.{sha256}
 use Rattle.cm_disk.specs.Disk.{Files}
 use Rattle.cm_tree.specs.declared.entry.Entry.{Entry}
 use Rattle.cm_tree.specs.Trees.{File}
-use Rattle.cm_library.specs.Places.{file_place}
+use Rattle.cm_filelib.specs.Places.{file_place}
 use Rattle.cm_library.specs.State.{Held, State}
 
 -- where the disk tells what it reads as, it does so afterwards, and the two are so related

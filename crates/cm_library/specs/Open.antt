@@ -1,5 +1,5 @@
 -- A library on its disk.
-use Rattle.std.specs.Prelude.{◌≡◌, ℕ, Bool, true, List, Option, Some}
+use Rattle.std.specs.Prelude.{◌≡◌, ℕ, true, List, Option}
 use Rattle.std.specs.Option.{ForSome}
 use Rattle.cm_disk.specs.Disk.{File, Files}
 use Rattle.cm_log.specs.declared.state.Log.{Log}

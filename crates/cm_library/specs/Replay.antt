@@ -1,7 +1,6 @@
 -- The records of a log, replayed from some rows on.
 use Rattle.std.specs.Prelude.{ℕ, List, Option}
 use Rattle.std.specs.Option.{option_and_then}
-use Rattle.cm_pkglib.specs.declared.change.Change.{Change}
 use Rattle.cm_pkglib.specs.Changes.{read_change}
 use Rattle.cm_pkglib.specs.Rows.{Rows, step}
 use Rattle.cm_library.specs.Look.{known}

@@ -6,7 +6,7 @@ use Rattle.cm_disk.specs.Disk.{Files}
 use Rattle.cm_pkglib.specs.Rows.{is_before, with_last}
 use Rattle.cm_tree.specs.declared.entry.Entry.{Entry}
 use Rattle.cm_tree.specs.Trees.{File, Apart, manifest_of}
-use Rattle.cm_library.specs.Places.{file_place}
+use Rattle.cm_filelib.specs.Places.{file_place}
 use Rattle.cm_library.specs.State.{Held, State, StateChange, Begun, Finished, held_of, replayed}
 use Rattle.cm_library.specs.Changes.{AddsTree}
 use Rattle.cm_library.specs.Look.{look, Opened}

@@ -7,7 +7,7 @@ ghost use Rattle.sha2.specs.Sha256.{sha256};
 ghost use Rattle.cm_pkglib.specs.Rows.{last_of};
 ghost use Rattle.cm_tree.specs.Trees.{File, IsFile, manifest_of};
 ghost use Rattle.cm_tree.specs.GatheredFiles.{files_of};
-ghost use Rattle.cm_library.specs.Places.{file_place};
+ghost use Rattle.cm_filelib.specs.Places.{file_place};
 ghost use Rattle.cm_library.specs.State.{replayed};
 ghost use Rattle.cm_library.specs.Changes.{Told, AddsTree, StoresPlan, Puts, is_named};
 ghost use Rattle.cm_library.specs.Plans.{IsFresh, IsPlan};

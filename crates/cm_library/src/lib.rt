@@ -16,6 +16,7 @@ mod places;
 mod planning;
 mod records;
 mod row;
+mod sealing;
 mod storing;
 mod telling;
 mod told;

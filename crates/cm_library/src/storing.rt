@@ -2,13 +2,12 @@
 ghost use Rattle.std.specs.Prelude.{◌≡◌, ◌^◌, ◌<◌, length, OnOk};
 ghost use Rattle.sha2.specs.Sha256.{sha256};
 ghost use Rattle.cm_base.specs.Causes.{HasCause};
-ghost use Rattle.cm_library.specs.Places.{file_place};
+ghost use Rattle.cm_filelib.specs.Places.{file_place};
 ghost use Rattle.cm_library.specs.Changes.{Told, Puts};
 ghost use Rattle.cm_library.specs.Open.{disk_of, state_of, end_of, IsOpen};
 
 use crate::library::Library;
-use crate::places::file_at;
-use crate::whole_file::write_whole;
+use crate::sealing::keep_file;
 use cm_base::Hash;
 use cm_disk::{Disk, DiskFault};
 
@@ -25,6 +24,6 @@ impl<D: Disk> Library<D> {
         ensures stored { OnOk result (Told (Puts (file_place hash.0) bytes.now) (D.reads (disk_of self.old)) (D.reads (disk_of self.new))) }
         ensures cause { HasCause (D.faults (disk_of self.old)) (D.faults (disk_of self.new)) result }
     {
-        write_whole(&mut self.disk, &file_at(hash), bytes)
+        keep_file(&mut self.disk, hash, bytes)
     }
 }

@@ -1,4 +1,4 @@
-use Rattle.std.proofs.Common.{◌≡◌, List, sym, ◌∙◌, subst, Some}
+use Rattle.std.proofs.Common.{sym, ◌∙◌, subst, Some}
 use Rattle.std.proofs.lemmas.Option.{same_Some}
 use Rattle.cm_disk.specs.Disk.{Files, put}
 use Rattle.cm_disk.proofs.Puts.{told_before}

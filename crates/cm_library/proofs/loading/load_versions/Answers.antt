@@ -1,9 +1,8 @@
-use Rattle.std.proofs.Common.{◌≡◌, Bool, true, false, ◌∙◌, sym, subst, arith, rules}
+use Rattle.std.proofs.Common.{◌∙◌, arith}
 use Rattle.std.proofs.lemmas.Bool.{false≢true}
-use Rattle.cm_pkglib.specs.declared.row.PkgRow.{PkgRow}
 use Rattle.cm_pkglib.proofs.Among.{All-map}
 use Rattle.std.proofs.Common.{take}
-use Rattle.cm_library.specs.Loads.{IsKept, TakesOne}
+use Rattle.cm_library.specs.Loads.{IsKept}
 use Rattle.cm_library.proofs.MapKept.{lacks_at, all_next}
 use Rattle.cm_library.proofs.loading.load_versions.Goals as goal
 

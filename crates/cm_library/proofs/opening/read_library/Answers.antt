@@ -1,4 +1,4 @@
-use Rattle.std.proofs.Common.{◌≡◌, ℕ, Bool, true, false, List, Err, sym, ◌∙◌, ap, subst}
+use Rattle.std.proofs.Common.{◌≡◌, ℕ, Err, sym, ◌∙◌, ap, subst}
 use Rattle.std.specs.Prelude.{Result, IsErrOf}
 use Rattle.cm_log.specs.declared.state.Log.{Log}
 use Rattle.cm_log.specs.declared.position.LogReader.{LogReader}
@@ -6,7 +6,6 @@ use Rattle.cm_log.specs.declared.faults.LogFault.{LogFault}
 use Rattle.cm_library.specs.declared.kept.Contents.{Contents}
 use Rattle.cm_library.specs.declared.fault.OpenFault.{OpenFault}
 use Rattle.cm_library.specs.declared.fault.OpenFault.TheVariants.{Unreadable}
-use Rattle.cm_log.specs.declared.shelf.Shelf.TheVariants.{PkgLib}
 use Rattle.cm_log.specs.Settled.{end_of}
 use Rattle.cm_log.proofs.Done.{settled_when_done}
 use Rattle.cm_pkglib.specs.Rows.{Rows}

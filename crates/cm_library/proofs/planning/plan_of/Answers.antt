@@ -1,8 +1,7 @@
-use Rattle.std.proofs.Common.{◌≡◌, ◌+◌, Bool, take, sym, ◌∙◌, ap, subst}
+use Rattle.std.proofs.Common.{◌+◌, Bool, take, sym, ◌∙◌, ap, subst}
 use Rattle.std.specs.Prelude.{◌||◌}
 use Rattle.std.specs.Str.{bytes_eq}
 use Rattle.std.specs.BTreeSet.{contains}
-use Rattle.cm_base.specs.declared.hash.Hash.{Hash}
 use Rattle.cm_tree.specs.declared.entry.Entry.{Entry}
 use Rattle.cm_library.specs.Changes.{has_hash}
 use Rattle.cm_library.specs.Plans.{hash_cmp}

@@ -1,8 +1,8 @@
-use Rattle.std.proofs.Common.{◌≡◌, ℕ, Bool, List, Result, Ok, Err, IsErrOf, take, sym, ◌∙◌, ap, subst, Some, refl}
+use Rattle.std.proofs.Common.{Bool, Result, Ok, take, sym, ◌∙◌, ap, Some}
 use Rattle.cm_log.specs.Logs.{Reading}
 use Rattle.cm_log.specs.Settled.{rest_of, reader_at, reader_place}
 use Rattle.cm_library.specs.declared.fault.OpenFault.{OpenFault}
-use Rattle.cm_library.specs.Look.{Library, Unreadable, library_from}
+use Rattle.cm_library.specs.Look.{library_from}
 use Rattle.cm_library.proofs.Naming.{named}
 use Rattle.cm_library.proofs.Steps.{closes, refuses}
 use Rattle.cm_library.proofs.records.take_record.Goals as goal

@@ -5,7 +5,7 @@ use Rattle.cm_pkglib.specs.declared.change.Change.TheVariants.{Done}
 use Rattle.cm_library.specs.declared.row.VersionRow.{VersionRow}
 use Rattle.cm_library.specs.declared.row.JobRow.{JobRow}
 use Rattle.cm_library.specs.State.{State, Finished, changed}
-use Rattle.cm_library.specs.Contents.{manifest_in_map, state_with, with_told_done, AreTold}
+use Rattle.cm_library.specs.Contents.{manifest_in_map, state_with, AreTold}
 use Rattle.cm_library.proofs.Keeping.{done_free, finished_with, told_finished, on_ok}
 use Rattle.cm_library.proofs.kept.Contents.finish.Goals as goal
 

@@ -1,5 +1,4 @@
 use Rattle.std.proofs.Common.{sym, ◌∙◌, ap, subst}
-use Rattle.cm_pkglib.specs.Rows.{Rows}
 use Rattle.cm_pkglib.specs.Valid.{AreValid}
 use Rattle.cm_library.specs.State.{State, rows_of}
 use Rattle.cm_library.specs.Contents.{manifest_in_map}

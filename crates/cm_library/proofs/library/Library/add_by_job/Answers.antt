@@ -1,9 +1,9 @@
-use Rattle.std.proofs.Common.{◌≡◌, ℕ, ◌≤◌, List, None, Err, sym, ◌∙◌, ap, subst, refl, arith}
+use Rattle.std.proofs.Common.{◌≡◌, ℕ, ◌≤◌, List, None, Err, ◌∙◌, ap, subst, refl, arith}
 use Rattle.std.specs.Prelude.{Result}
 use Rattle.cm_base.specs.Causes.{Rose}
 use Rattle.cm_base.specs.declared.hash.Hash.{Hash}
 use Rattle.cm_tree.specs.declared.entry.Entry.{Entry}
-use Rattle.cm_tree.specs.Trees.{File, manifest_of}
+use Rattle.cm_tree.specs.Trees.{File}
 use Rattle.cm_tree.specs.GatheredFiles.{files_of}
 use Rattle.cm_library.specs.declared.fault.LibFault.{LibFault}
 use Rattle.cm_library.specs.declared.fault.LibFault.TheVariants.{Disk}

@@ -1,4 +1,3 @@
-use Rattle.std.proofs.Common.{◌≡◌}
 use Rattle.cm_log.specs.Settled.{end_of}
 use Rattle.cm_library.proofs.Unopened.{refused_by_limits}
 use Rattle.cm_library.proofs.library.Library.add_tree.Goals as goal

@@ -1,4 +1,4 @@
-use Rattle.std.proofs.Common.{◌≡◌, ℕ, ◌+◌, List, length, sym, ◌∙◌, ap, subst, refl, Some, None}
+use Rattle.std.proofs.Common.{◌≡◌, ℕ, ◌+◌, length, sym, ◌∙◌, ap, subst, Some, None}
 use Rattle.std.proofs.lemmas.Option.{same_Some}
 use Rattle.sha2.proofs.Facts256.{length-sha256}
 use Rattle.cm_disk.specs.Disk.{Files, put}
@@ -9,7 +9,6 @@ use Rattle.cm_pkglib.specs.declared.change.Change.{Change}
 use Rattle.cm_pkglib.specs.declared.change.Change.TheVariants.{Opened as OpenedChange}
 use Rattle.cm_pkglib.specs.Changes.{spelled}
 use Rattle.cm_pkglib.specs.Rows.{opened_fault}
-use Rattle.cm_tree.specs.declared.entry.Entry.{Entry}
 use Rattle.cm_tree.specs.Manifests.{spelling}
 use Rattle.cm_library.specs.State.{State, Begun, changed, rows_of}
 use Rattle.cm_library.specs.Open.{StandsIn}

@@ -1,6 +1,6 @@
-use Rattle.std.proofs.Common.{◌≡◌, ◌⊎◌, ℕ, List, OnOk, Result, Ok, Err, Option, Some, inl, inr, sym, ◌∙◌}
+use Rattle.std.proofs.Common.{◌≡◌, ℕ, List, OnOk, Result, Ok, Err, Option, Some, inl, inr, ◌∙◌}
 use Rattle.std.specs.Option.{ForSome}
-use Rattle.cm_disk.specs.Disk.{File, Files, IsImage, LeavesOnly}
+use Rattle.cm_disk.specs.Disk.{File, Files, IsImage}
 use Rattle.cm_log.specs.declared.faults.CreateFault.{CreateFault}
 use Rattle.cm_log.specs.declared.shelf.Shelf.TheVariants.{PkgLib}
 use Rattle.cm_log.specs.Settled.{Makes as MakesLog, Rests, IsMaking}

@@ -1,10 +1,10 @@
-use Rattle.std.proofs.Common.{◌≡◌, ℕ, ◌<◌, ◌^◌, List, length, sym, ◌∙◌, ap, subst, arith}
+use Rattle.std.proofs.Common.{◌≡◌, ℕ, ◌<◌, ◌^◌, List, length, sym, ◌∙◌, ap, subst}
 use Rattle.std.proofs.lemmas.Option.{same_Some}
 use Rattle.sha2.specs.Sha256.{sha256}
 use Rattle.cm_tree.specs.declared.entry.Entry.{Entry}
 use Rattle.cm_tree.specs.GatheredFiles.{file_of, files_of}
 use Rattle.cm_tree.specs.Trees.{File, IsFile}
-use Rattle.cm_library.specs.Places.{file_place}
+use Rattle.cm_filelib.specs.Places.{file_place}
 use Rattle.cm_library.proofs.OnEach.{on_each}
 use Rattle.cm_library.proofs.Members.{at_member}
 use Rattle.cm_library.proofs.StoredTree.{pair_at, member_at, told_as}

@@ -1,0 +1,55 @@
+use Rattle.std.proofs.Common.{refl, ◌∙◌, subst, arith}
+use Rattle.std.specs.Prelude.{None, Some}
+use Rattle.cm_datalib.specs.declared.step.Step.{Step}
+use Rattle.cm_datalib.specs.Places.{manifest_place, stored}
+use Rattle.cm_datalib.specs.Walks.{IsStep, Rises, GoesUp}
+use Rattle.cm_datalib.proofs.Quiet.{quiet_start, quiet_next}
+use Rattle.cm_datalib.proofs.Rises.{above_above}
+use Rattle.cm_datalib.proofs.Steps.{next_from}
+use Rattle.cm_datalib.proofs.walking.first_above.Goals as goal
+
+pub loop-package-init : goal.loop-package-init
+loop-package-init g c =
+    let d = g.D.Disk in
+    record {
+      quiet = quiet_start d.may_leave d.moment d.left_since c.args.disk.now (g.met.D.Disk.only_now c.args.disk.now);
+      same = refl;
+      later = omega arith;
+      near = omega arith;
+      above = λ q a. a;
+      passed = λ x told q a there. a;
+    }
+
+pub loop-package-preserved : goal.loop-package-preserved
+loop-package-preserved g c =
+    let d = g.D.Disk in
+    let now = c.loop-package.invariant in
+    let up : Rises c.loop-package.at c.in-Passed.place = subst (λ (s : Step). GoesUp c.loop-package.at s) c.in-Passed.is c.in_ok-package.ensures.up in
+    record {
+      quiet = quiet_next d.may_leave d.moment d.left_since c.args.disk.now c.loop-package.disk c.step_above.new.disk now.quiet c.step_above.ensures.time c.step_above.ensures.stop;
+      same = c.step_above.ensures.same ∙ now.same;
+      later = omega (arith, now.later, c.step_above.ensures.cause.later);
+      near = omega (arith, up.nearer, now.near);
+      above = λ q a. now.above q (above_above c.loop-package.at c.in-Passed.place q up.above a);
+      passed = λ x told q a there.
+          let step = subst (λ (s : Step). IsStep (stored x) c.loop-package.at s) c.in-Passed.is (c.in_ok-package.ensures.step x (now.same ∙ told)) in
+          step q (now.passed x told q a there) there;
+    }
+
+pub returns-in-Found-clause-least : goal.returns-in-Found-clause-least
+returns-in-Found-clause-least g c x told =
+    let now = c.loop-package.invariant in
+    next_from x c.args.from c.loop-package.at (Some (manifest_place c.in-Found.package c.in-Found.version)) (now.passed x told)
+    (subst (λ (s : Step). IsStep (stored x) c.loop-package.at s) c.in-Found.is (c.in_ok-package.ensures.step x (now.same ∙ told)))
+
+pub returns-in-Found-clause-rises : goal.returns-in-Found-clause-rises
+returns-in-Found-clause-rises g c =
+    let now = c.loop-package.invariant in
+    let up : Rises c.loop-package.at (manifest_place c.in-Found.package c.in-Found.version) = subst (λ (s : Step). GoesUp c.loop-package.at s) c.in-Found.is c.in_ok-package.ensures.up in
+    record { above = now.above (manifest_place c.in-Found.package c.in-Found.version) up.above; nearer = omega (arith, up.nearer, now.near) }
+
+pub returns-in-End-clause-least : goal.returns-in-End-clause-least
+returns-in-End-clause-least g c x told =
+    let now = c.loop-package.invariant in
+    next_from x c.args.from c.loop-package.at None (now.passed x told)
+    (subst (λ (s : Step). IsStep (stored x) c.loop-package.at s) c.in-End.is (c.in_ok-package.ensures.step x (now.same ∙ told)))

@@ -1,0 +1,5 @@
+pub mod Loads
+pub mod Places
+pub mod Ranks
+pub mod Spellings
+pub mod Walks

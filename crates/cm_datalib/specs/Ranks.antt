@@ -1,0 +1,18 @@
+-- How many places may stand above one.
+use Rattle.std.specs.Prelude.{ℕ, zero, suc, ◌+◌, ◌-◌, ◌*◌, List, [], ◌∷◌, Option, None, Some}
+
+-- 257 for each byte that a text may have
+unfoldable pub scale : ℕ → ℕ
+scale zero = 1
+scale (suc most) = 257 * scale most
+
+-- the number of a text among those of at most so many bytes, in byte order
+unfoldable pub rank : ℕ → List ℕ → ℕ
+rank zero text = 0
+rank (suc most) [] = 0
+rank (suc most) (byte ∷ text) = (byte + 1) * scale most + rank most text
+
+-- as many places as may stand above this one, or above none; it falls as a walk goes on
+unfoldable pub ahead : Option (List ℕ) → ℕ
+ahead None = scale 120 + 1
+ahead (Some place) = scale 120 - rank 120 place

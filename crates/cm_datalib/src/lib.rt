@@ -1,0 +1,24 @@
+//! Stored manifests: each is stored at the place of its version, loaded, walked and erased.
+#![tactic(auto)]
+
+mod decimal;
+mod erasing;
+mod faults;
+pub mod laws;
+mod loading;
+mod places;
+mod putting;
+mod reading;
+mod spelling;
+mod step;
+mod storing;
+mod walking;
+
+pub use erasing::erase;
+pub use faults::DataFault;
+pub use loading::load;
+pub use storing::store;
+pub use walking::next;
+
+#[cfg(test)]
+mod tests;

@@ -1,0 +1,120 @@
+//! A stored manifest is loaded.
+ghost use Rattle.std.specs.Prelude.{◌≡◌, ◌≢◌, ◌≤◌, ◌<◌, ◌^◌, ℕ, List, length, take, Some, IfOk, IfErr, IsErrOf, option_map};
+ghost use Rattle.std.specs.Option.{ForSome};
+ghost use Rattle.sha2.specs.Sha256.{sha256};
+ghost use Rattle.cm_base.specs.Causes.{Rose, HasCause};
+ghost use Rattle.cm_base.specs.declared.hash.Hash.{Hash as hash_value};
+ghost use Rattle.cm_disk.specs.Disk.{File, Files, IsImage, LeavesNoMore, LeavesOnly};
+ghost use Rattle.cm_tree.specs.Manifests.{spelling, IsManifest};
+ghost use Rattle.cm_datalib.specs.Places.{manifest_place};
+ghost use Rattle.cm_datalib.specs.Loads.{loaded, Answers, bad_manifest};
+
+use crate::faults::DataFault;
+use crate::places::manifest_at;
+use crate::reading::hash_file;
+use cm_base::{Hash, PackageId, Place, Version};
+use cm_disk::{Disk, DiskFault};
+use cm_tree::{Manifest, TreeFault};
+use sha2::{Digest, Sha256};
+use std::alloc::Global;
+
+/// Loads the manifest of a version, whose spelling is to have this size and this SHA-256.
+pub fn load<D: Disk>(
+    alloc: Global,
+    disk: &mut D,
+    package: PackageId,
+    version: Version,
+    size: u32,
+    hash: Hash,
+) -> Result<Manifest, DataFault>
+    ensures answer { ForSome (D.reads disk.old) (λ files. Answers result (loaded hash size (files (manifest_place «package» version)))) }
+    // Whatever the disk, a manifest is what was named, and what is named is told.
+    ensures named { IfOk result (λ manifest. (length (spelling manifest) ≡ size) × (sha256 (spelling manifest) ≡ hash.0)) }
+    ensures other { (named got : hash_value) (of found : ℕ) → IsErrOf result (DataFault.OtherBytes named got of found) → (named ≡ hash) × (of ≡ size) }
+    ensures same { D.reads disk.new ≡ D.reads disk.old }
+    ensures stop { LeavesNoMore (D.may_leave disk.old) (D.may_leave disk.new) }
+    ensures run { LeavesOnly D.moment D.left_since disk.old disk.new (IsImage (D.may_leave disk.old)) }
+    ensures later { D.faults disk.old ≤ D.faults disk.new }
+    ensures cause { IsErrOf result DataFault.Disk → Rose (D.faults disk.old) (D.faults disk.new) }
+{
+    let place = manifest_at(package, version);
+    let Some(found) = disk.size(&place)? else {
+        return Err(DataFault::NotHere);
+    };
+    if found != u64::from(size) {
+        let (found, got) = hash_file(disk, &place, found)?;
+        return Err(DataFault::OtherBytes {
+            named: hash,
+            got,
+            size,
+            found,
+        });
+    }
+    load_named(alloc, disk, &place, size, hash)
+}
+
+// Loads a manifest from a place whose file has the size.
+fn load_named<D: Disk>(
+    alloc: Global,
+    disk: &mut D,
+    place: &Place,
+    size: u32,
+    hash: Hash,
+) -> Result<Manifest, DataFault>
+    ensures answer { ForSome (D.reads disk.old) (λ files. option_map length (files place.now) ≡ Some size → Answers result (loaded hash size (files place.now))) }
+    ensures named { IfOk result (λ manifest. (length (spelling manifest) ≡ size) × (sha256 (spelling manifest) ≡ hash.0)) }
+    ensures other { (named got : hash_value) (of found : ℕ) → IsErrOf result (DataFault.OtherBytes named got of found) → (named ≡ hash) × (of ≡ size) }
+    ensures same { D.reads disk.new ≡ D.reads disk.old }
+    ensures stop { LeavesNoMore (D.may_leave disk.old) (D.may_leave disk.new) }
+    ensures run { LeavesOnly D.moment D.left_since disk.old disk.new (IsImage (D.may_leave disk.old)) }
+    ensures later { D.faults disk.old ≤ D.faults disk.new }
+    ensures cause { IsErrOf result DataFault.Disk → Rose (D.faults disk.old) (D.faults disk.new) }
+{
+    let mut bytes = vec![in alloc; 0u8; size as usize]?;
+    let count = read_whole(disk, place, &mut bytes)?;
+    manifest_of(alloc, &bytes[..count], size, hash)
+}
+
+// Reads a file from its front, and tells how many bytes it gave.
+fn read_whole<D: Disk>(disk: &mut D, place: &Place, buf: &mut [u8]) -> Result<usize, DiskFault>
+    ensures fits { IfOk result (λ count. count ≤ length buf.new) }
+    ensures whole { IfOk result (λ count. ForSome (D.reads disk.old) (λ files. option_map length (files place.now) ≡ Some (length buf.old) → files place.now ≡ Some (take count buf.new))) }
+    ensures same { D.reads disk.new ≡ D.reads disk.old }
+    ensures stop { LeavesNoMore (D.may_leave disk.old) (D.may_leave disk.new) }
+    ensures run { LeavesOnly D.moment D.left_since disk.old disk.new (IsImage (D.may_leave disk.old)) }
+    ensures cause { HasCause (D.faults disk.old) (D.faults disk.new) result }
+{
+    disk.read_at(place, 0, buf)
+}
+
+// The manifest in these bytes, where they are those that were named.
+fn manifest_of(alloc: Global, bytes: &[u8], size: u32, hash: Hash) -> Result<Manifest, DataFault>
+    ensures answer { Answers result (loaded hash size (Some bytes.now)) }
+    ensures named { IfOk result (λ manifest. (length (spelling manifest) ≡ size) × (sha256 (spelling manifest) ≡ hash.0)) }
+    ensures other { (named got : hash_value) (of found : ℕ) → IsErrOf result (DataFault.OtherBytes named got of found) → (named ≡ hash) × (of ≡ size) }
+    ensures fault { IfErr result (λ fault. fault ≢ DataFault.Disk) }
+{
+    let got = Hash(Sha256::digest(bytes));
+    if bytes.len() != size as usize || got != hash {
+        return Err(DataFault::OtherBytes {
+            named: hash,
+            got,
+            size,
+            found: bytes.len() as u64,
+        });
+    }
+    match Manifest::decode(alloc, bytes) {
+        Ok(manifest) => Ok(manifest),
+        Err(fault) => Err(of_tree(fault)),
+    }
+}
+
+// Why bytes that were named are no manifest.
+fn of_tree(fault: TreeFault) -> DataFault
+    ensures { result ≡ bad_manifest fault }
+{
+    match fault {
+        TreeFault::Memory => DataFault::Memory,
+        other => DataFault::BadManifest { fault: other },
+    }
+}

@@ -1,0 +1,100 @@
+//! The places of manifests.
+ghost use Rattle.std.specs.Prelude.{◌≡◌, ◌≢◌, ◌<◌, ◌^◌, ℕ, Some, IfSome, IfNone};
+ghost use Rattle.std.specs.Fmt.{decimal};
+ghost use Rattle.hex.specs.Hex.{IsBytes};
+ghost use Rattle.cm_disk.specs.Disk.{is_above};
+ghost use Rattle.cm_datalib.specs.Places.{folder, folder_end, manifest_place, version_named};
+ghost use Rattle.cm_datalib.specs.Walks.{IsText};
+
+use crate::decimal::write_decimal;
+use crate::putting::put;
+use cm_base::{PackageId, Place, Version};
+
+/// The place of the manifest of a version.
+pub(crate) fn manifest_at(id: PackageId, version: Version) -> Place
+    ensures { result ≡ manifest_place id version }
+{
+    let mut digits = [0u8; 10];
+    let start = write_decimal(version.number(), &mut digits);
+    let mut text = [0u8; 27];
+    let id_at = put(&mut text, 0, b"DataLib/");
+    let point_at = put(&mut text, id_at, id.as_bytes());
+    let number_at = put(&mut text, point_at, b".");
+    let end = put(&mut text, number_at, &digits[start..]);
+    match Place::read(&text[..end]) {
+        Some(place) => place,
+        None => unreachable!(),
+    }
+}
+
+/// The folder, below the places of all manifests.
+pub(crate) fn folder_place() -> Place
+    ensures { result ≡ folder }
+{
+    match Place::read(b"DataLib/") {
+        Some(place) => place,
+        None => unreachable!(),
+    }
+}
+
+// The number that a text spells, where it is spelled with no zero in front.
+fn number_in(text: &[u8]) -> Option<u32>
+    ensures { (number : ℕ) → number < 2 ^ 32 → text.now ≡ decimal number → result ≡ Some number }
+{
+    match std::str::from_utf8(text) {
+        Ok(digits) => match digits.parse::<u32>() {
+            Ok(number) => Some(number),
+            Err(_) => None,
+        },
+        Err(_) => None,
+    }
+}
+
+/// The version whose manifest has this place. None where it is no place of a manifest.
+pub(crate) fn version_at(place: &Place) -> Option<(PackageId, Version)>
+    ensures { result ≡ version_named place.now }
+{
+    let bytes = place.as_bytes();
+    if bytes.len() < 18 {
+        return None;
+    }
+    let Some(id) = PackageId::read(&bytes[8..16]) else {
+        return None;
+    };
+    let Some(number) = number_in(&bytes[17..]) else {
+        return None;
+    };
+    let Some(version) = Version::new(number) else {
+        return None;
+    };
+    if manifest_at(id, version) == *place {
+        Some((id, version))
+    } else {
+        None
+    }
+}
+
+/// Whether a place is above those of all manifests.
+pub(crate) fn is_past(place: &Place) -> bool
+    ensures { result ≡ is_above (Some folder_end) place.now }
+{
+    match Place::read(b"DataLib0") {
+        Some(end) => end < *place,
+        None => unreachable!(),
+    }
+}
+
+// A place is a text.
+pub(crate) fn tell_text(place: &Place)
+    ensures { IsText place.now }
+{
+    let text = place.as_bytes();
+    tell_bytes(text);
+}
+
+// Bytes are below 256.
+fn tell_bytes(text: &[u8])
+    ensures { IsBytes text.now }
+{
+    let _many = text.len();
+}

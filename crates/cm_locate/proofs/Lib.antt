@@ -1,0 +1,13 @@
+pub mod Groups
+pub mod Has
+pub mod Held
+pub mod KindsApart
+pub mod Later
+pub mod Numbers
+pub mod Once
+pub mod PointRow
+pub mod PointsMade
+pub mod RanksFit
+pub mod RowsMade
+pub mod Searching
+pub mod Unique

@@ -1,0 +1,6 @@
+pub mod Answers
+pub mod Asks
+pub mod Clients
+pub mod Eligible
+pub mod Names
+pub mod Ranks

@@ -1,0 +1,98 @@
+//! Looking a client up among the groups.
+ghost use Rattle.std.specs.Prelude.{◌≡◌, ◌<◌, ◌==◌, not, All, IfOk, length, filter};
+ghost use Rattle.cm_groups.specs.Current.{IsThere};
+ghost use Rattle.cm_locate.specs.Asks.{IsPrefix};
+ghost use Rattle.cm_locate.specs.Clients.{IsClient};
+ghost use Rattle.cm_locate.specs.Eligible.{current_of, reached_of};
+ghost use Rattle.cm_locate.specs.Ranks.{default_of, neighbours_of};
+
+use crate::Ask;
+use crate::client::Client;
+use crate::in_groups::{points_of, some_prefers};
+use cm_base::Memory;
+use cm_groups::Groups;
+use std::alloc::Global;
+
+/// The numbers of the client's current groups.
+fn current_groups(alloc: Global, groups: &Groups, ask: &Ask) -> Result<Vec<u16>, Memory>
+    ensures are { IfOk result (λ numbers. numbers.items ≡ current_of groups.now ask.now) }
+    ensures there { IfOk result (λ numbers. All (IsThere groups.now) numbers.items) }
+    ensures below { IfOk result (λ numbers. All (λ number. number < length groups.now) numbers.items) }
+{
+    let numbers = groups.current(alloc, ask.address, ask.site.as_ref())?;
+    Ok(numbers)
+}
+
+/// The numbers of the further groups that the client reaches.
+fn reached_groups(
+    alloc: Global,
+    groups: &Groups,
+    ask: &Ask,
+    current: &[u16],
+) -> Result<Vec<u16>, Memory>
+    requires are { current.now ≡ current_of groups.now ask.now }
+    requires there { All (IsThere groups.now) current.now }
+    ensures are { IfOk result (λ numbers. numbers.items ≡ reached_of groups.now ask.now) }
+    ensures there { IfOk result (λ numbers. All (λ number. number < length groups.now) numbers.items) }
+{
+    let numbers = groups.reach(
+        alloc,
+        current,
+        ask.elapsed,
+        ask.neighbours,
+        ask.default_group,
+    )?;
+    Ok(numbers)
+}
+
+/// The neighbours among these groups.
+fn neighbours_of(alloc: Global, numbers: &[u16]) -> Result<Vec<u16>, Memory>
+    ensures { IfOk result (λ found. found.items ≡ neighbours_of numbers.now) }
+{
+    Ok(
+        numbers
+            .iter()
+            .copied()
+            .filter(|number| *number != 0)
+            .collect(alloc)?,
+    )
+}
+
+/// The default group, where it is among these groups.
+fn default_of(alloc: Global, numbers: &[u16]) -> Result<Vec<u16>, Memory>
+    ensures { IfOk result (λ found. found.items ≡ default_of numbers.now) }
+{
+    Ok(
+        numbers
+            .iter()
+            .copied()
+            .filter(|number| *number == 0)
+            .collect(alloc)?,
+    )
+}
+
+impl<'a> Client<'a> {
+    /// The client that asks so, among these groups.
+    pub(crate) fn new(alloc: Global, groups: &'a Groups, ask: &'a Ask) -> Result<Client<'a>, Memory>
+        requires { IsPrefix ask.now.address ask.now.prefix }
+        ensures { IfOk result (λ client. IsClient groups.now ask.now client) }
+    {
+        let current = current_groups(alloc, groups, ask)?;
+        let reached = reached_groups(alloc, groups, ask, &current)?;
+        let neighbours = neighbours_of(alloc, &reached)?;
+        let default_group = default_of(alloc, &reached)?;
+        let prefers_points = some_prefers(groups, &current);
+        let of_current = points_of(alloc, groups, &current)?;
+        let of_neighbours = points_of(alloc, groups, &neighbours)?;
+        let of_default = points_of(alloc, groups, &default_group)?;
+        Ok(Client {
+            groups,
+            ask,
+            current,
+            prefers_points,
+            of_current,
+            of_neighbours,
+            of_default,
+        })
+    }
+}
