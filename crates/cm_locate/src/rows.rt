@@ -1,6 +1,7 @@
 //! The rows of points and peers.
 ghost use Rattle.std.specs.Prelude.{◌≡◌, ◌++◌, IfOk, OnOk, length};
 ghost use Rattle.std.specs.Option.{option_to_list};
+ghost use Rattle.cm_points.specs.Installs.{is_installed};
 ghost use Rattle.cm_locate.specs.Answers.{peer_row, peer_rows, point_row, point_rows};
 ghost use Rattle.cm_locate.specs.Clients.{IsClient};
 
@@ -21,12 +22,19 @@ fn add(rows: &mut Vec<SourceRow>, row: Option<SourceRow>) -> Result<(), Memory>
 }
 
 impl Client<'_> {
+    /// Whether the point has the version that is asked for.
+    fn is_installed(&self, installed: &Installed, point: &Point) -> bool
+        ensures { result ≡ is_installed installed.now point.now.name self.now.ask.now.package self.now.ask.now.version }
+    {
+        installed.has(&point.name, self.ask.package, self.ask.version)
+    }
+
     /// The row of a point, where it is eligible.
     fn point_row(&self, installed: &Installed, point: &Point) -> Option<SourceRow>
         requires { IsClient self.now.groups.now self.now.ask.now self.now }
         ensures { result ≡ point_row self.now.groups.now installed.now self.now.ask.now point.now }
     {
-        if !installed.has(&point.name, self.ask.package, self.ask.version) {
+        if !self.is_installed(installed, point) {
             return None;
         }
         match self.point_rank(point) {
