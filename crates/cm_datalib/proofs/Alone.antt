@@ -1,7 +1,7 @@
 -- Calls that touch one place, one after another.
 use Rattle.std.proofs.Common.{ℕ, List}
 use Rattle.std.specs.Prelude.{◌≢◌}
-use Rattle.cm_disk.specs.Disk.{File, Files, IsImage, LeavesNoMore, Elapses, LeavesOnly}
+use Rattle.cm_disk.specs.Disk.{File, Files, IsImage, Elapses, LeavesOnly}
 use Rattle.cm_disk.proofs.Moments.{started, goes_on, joins}
 
 -- at each other place a stop left what it might have left before

@@ -1,10 +1,10 @@
 -- The header of a manifest, and its entries behind it.
-use Rattle.std.proofs.Common.{◌≡◌, ℕ, ◌+◌, ◌≤◌, List, [], ◌++◌, length, take, refl, sym, ◌∙◌, ap, subst, arith, length-append}
+use Rattle.std.proofs.Common.{◌≡◌, ℕ, ◌+◌, ◌≤◌, List, [], ◌++◌, length, refl, sym, ◌∙◌, ap, subst, arith, length-append}
 use Rattle.std.specs.Prelude.{true, Option, None, Some, is_some}
 use Rattle.std.specs.List.{flat_map}
 use Rattle.std.specs.Option.{ForSome}
 use Rattle.std.proofs.lemmas.List.{append-nil}
-use Rattle.cm_disk.specs.Disk.{File, Files, bytes_of, put, written, shortened, IsPartly, Does}
+use Rattle.cm_disk.specs.Disk.{File, Files, bytes_of, put, written, shortened, IsPartly}
 use Rattle.cm_tree.specs.declared.entry.Entry.{Entry}
 use Rattle.cm_tree.specs.Manifests.{spelling, entry_bytes}
 use Rattle.cm_datalib.specs.Spellings.{header}

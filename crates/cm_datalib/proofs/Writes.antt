@@ -1,14 +1,14 @@
 -- A file that is written in pieces, from one offset on.
 use Rattle.std.proofs.Common.{◌≡◌, ◌⊎◌, inl, inr, ⊎_elim, ℕ, zero, suc, ◌+◌, ◌-◌, ◌<◌, ◌≤◌, Bool, true, false, List, [], ◌∷◌, ◌++◌, length, take, drop, refl, sym, ◌∙◌, ap, subst, arith, length-append, append_assoc, take-append-drop}
-use Rattle.std.specs.Prelude.{nat_lt, Option, None, Some, IsSome, is_some, slice_get, if◌then◌else◌, Result, Ok, Err, IsErr}
+use Rattle.std.specs.Prelude.{nat_lt, Option, None, Some, is_some, slice_get, if◌then◌else◌, Result, Ok, Err, IsErr}
 use Rattle.std.specs.Option.{ForSome}
 use Rattle.std.specs.Str.{bytes_eq}
 use Rattle.std.proofs.Math.Seq.{take-append_seam, drop-append-add}
 use Rattle.std.proofs.lemmas.Bool.{false≢true, ltb-true, ltb-false}
 use Rattle.std.proofs.lemmas.List.{append-nil, length-take-le, drop_all}
-use Rattle.std.proofs.lemmas.Option.{same_Some, none-some}
+use Rattle.std.proofs.lemmas.Option.{same_Some}
 use Rattle.std.proofs.lemmas.Slice.Eq.{bytes_eq-Decides}
-use Rattle.cm_disk.specs.Disk.{File, Files, bytes_of, byte_at, put, overwritten, written, shortened, IsPartly, Does}
+use Rattle.cm_disk.specs.Disk.{File, Files, bytes_of, byte_at, put, written, shortened, IsPartly, Does}
 use Rattle.cm_disk.proofs.Puts.{put_here, told_before}
 
 get_front : (xs ys : List ℕ) (i : ℕ) → i < length xs → slice_get (xs ++ ys) i ≡ slice_get xs i

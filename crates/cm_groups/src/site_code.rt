@@ -57,7 +57,7 @@ impl SiteCode {
     }
 
     /// The name of the default group of the site.
-    pub(crate) fn default_name(&self) -> Label
+    pub fn default_name(&self) -> Label
         ensures { result ≡ default_name self.now }
     {
         let mut text = *b"Default-Site-Boundary-Group<...>";

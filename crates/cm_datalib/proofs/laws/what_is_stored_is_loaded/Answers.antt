@@ -1,4 +1,4 @@
-use Rattle.std.proofs.Common.{refl, sym, ◌∙◌, ap, Bool, List, ℕ, length, eq-eqb}
+use Rattle.std.proofs.Common.{refl, sym, ◌∙◌, ap, Bool, List, length, eq-eqb}
 use Rattle.std.specs.Prelude.{◌&&◌, Result, Err, cond}
 use Rattle.std.specs.Str.{bytes_eq}
 use Rattle.std.proofs.lemmas.Slice.Eq.{bytes_eq-Decides}

@@ -1,4 +1,4 @@
-use Rattle.std.proofs.Common.{◌≡◌, ℕ, List, sym, ◌∙◌, ap}
+use Rattle.std.proofs.Common.{ℕ, List, sym, ◌∙◌, ap}
 use Rattle.cm_datalib.specs.Loads.{loaded}
 use Rattle.cm_datalib.proofs.Loaded.{other_size}
 use Rattle.cm_datalib.proofs.loading.load.Goals as goal

@@ -1,8 +1,8 @@
-use Rattle.std.proofs.Common.{◌≡◌, ℕ, List, length, take, arith, sym}
+use Rattle.std.proofs.Common.{◌≡◌, ℕ, length, take, arith}
 use Rattle.std.specs.Prelude.{Some, option_map}
 use Rattle.std.specs.Option.{ForSome}
 use Rattle.std.proofs.lemmas.Result.{IfOk-weaker}
-use Rattle.cm_disk.specs.Disk.{File, Files, Reads}
+use Rattle.cm_disk.specs.Disk.{Files, Reads}
 use Rattle.cm_datalib.proofs.Loaded.{whole_read}
 use Rattle.cm_datalib.proofs.loading.read_whole.Goals as goal
 

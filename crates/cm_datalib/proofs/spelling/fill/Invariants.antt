@@ -1,4 +1,4 @@
-use Rattle.std.proofs.Common.{◌≡◌, ◌≤◌, ◌+◌, ◌-◌, ◌*◌, ◌++◌, length, take}
+use Rattle.std.proofs.Common.{◌≡◌, ◌≤◌, ◌-◌, ◌*◌, ◌++◌, length, take}
 use Rattle.std.specs.List.{flat_map}
 use Rattle.cm_tree.specs.Manifests.{entry_bytes}
 use Rattle.cm_datalib.proofs.spelling.fill.Given as goal

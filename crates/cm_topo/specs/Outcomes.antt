@@ -1,0 +1,92 @@
+-- What a text says: a topology, or its first fault.
+use Rattle.std.specs.Prelude.{◌≡◌, ℕ, ◌==◌, ◌++◌, ⊤, IsUtf8, List, [], ◌∷◌, Option, Some, None, Result, Ok, Err, if◌then◌else◌}
+use Rattle.std.specs.Option.{option_and_then, option_to_list}
+use Rattle.cm_groups.specs.declared.fault.GroupsFault.{GroupsFault}
+use Rattle.cm_groups.specs.declared.fault.GroupsFault.TheVariants as groups_fault
+use Rattle.cm_groups.specs.Faults.{first_fault}
+use Rattle.cm_groups.specs.Groups.{groups_of}
+use Rattle.toml.specs.Data.{Members}
+use Rattle.toml.specs.Parse.{parse_document}
+use Rattle.cm_topo.specs.declared.fault.TopoFault.{TopoFault}
+use Rattle.cm_topo.specs.declared.fault.TopoFault.TheVariants.{NotToml, WrongShape, Rule, Memory}
+use Rattle.cm_topo.specs.declared.placed.Placed.{Placed}
+use Rattle.cm_topo.specs.declared.stop.Stop.{Stop}
+use Rattle.cm_topo.specs.declared.stop.Stop.TheVariants as stop
+use Rattle.cm_topo.specs.declared.topology.Topology.{Topology}
+use Rattle.cm_topo.specs.declared.topology_text.TopologyText.{TopologyText}
+use Rattle.cm_topo.specs.declared.trouble.Trouble.TheVariants.{Broken}
+use Rattle.cm_topo.specs.FirstPass.{first_pass}
+use Rattle.cm_topo.specs.Net.{Net, IsRight}
+use Rattle.cm_topo.specs.Rows.{text_of}
+use Rattle.cm_topo.specs.Rules.{no_such_boundary, no_such_group, same_name, same_relation, self_relation, too_long_fallback, too_many}
+use Rattle.cm_topo.specs.SecondPass.{second_pass}
+use Rattle.cm_topo.specs.Troubles.{fault_at, fault_of}
+
+-- the document that a text is, by TOML
+abbrev pub IsDocument : List ℕ → Members → Type 0
+IsDocument bytes d = IsUtf8 bytes × (parse_document bytes ≡ Some d)
+
+-- the part of the boundaries or of the groups, by its number among the texts of groups
+abbrev pub part_of : ℕ → ℕ
+part_of part = if part == 0 then 1 else 2
+
+-- what the groups refuse, in the numbers of the topology
+abbrev pub refusal_of : GroupsFault → Option Placed
+refusal_of (groups_fault.SameName part entry) = Some (fault_at (part_of part) entry (Broken same_name))
+refusal_of (groups_fault.NoSuchGroup part entry) = Some (fault_at 3 entry (Broken no_such_group))
+refusal_of (groups_fault.NoSuchBoundary part entry) = Some (fault_at 2 entry (Broken no_such_boundary))
+refusal_of (groups_fault.SelfRelation part entry) = Some (fault_at 3 entry (Broken self_relation))
+refusal_of (groups_fault.SameRelation part entry) = Some (fault_at 3 entry (Broken same_relation))
+refusal_of (groups_fault.TooLongFallback part entry) = Some (fault_at 3 entry (Broken too_long_fallback))
+refusal_of (groups_fault.TooMany part entry) = Some (fault_at (part_of part) entry (Broken too_many))
+refusal_of groups_fault.Memory = None
+
+abbrev pub group_faults : TopologyText → List Placed
+group_faults text = option_to_list (option_and_then refusal_of (first_fault text.code text.boundaries text.groups))
+
+-- behind the first pass stands the second one, and behind both what the groups refuse
+abbrev pub later_faults : TopologyText → List Placed
+later_faults text = second_pass text ++ group_faults text
+
+-- all that is wrong with a document, in order
+abbrev pub faults : Net → Members → List Placed
+faults net d = first_pass net d ++ later_faults (text_of net d)
+
+-- the topology of rows without a fault
+abbrev pub topology_of : TopologyText → Topology
+topology_of text = record {
+  code = text.code;
+  groups = groups_of text.code text.boundaries text.groups text.default_points;
+  points = text.points;
+  point_groups = text.point_groups;
+  peers = text.peers;
+}
+
+-- the first fault, or the topology where there is none
+abbrev pub unless_faulty : List Placed → Topology → Result Topology TopoFault
+unless_faulty [] topology = Ok topology
+unless_faulty (fault ∷ more) topology = Err (fault_of fault)
+
+-- what a document comes to
+abbrev pub outcome : Net → Members → Result Topology TopoFault
+outcome net d = unless_faulty (faults net d) (topology_of (text_of net d))
+
+-- a reader gave the outcome, or had no memory
+abbrev pub Gives : Result Topology Stop → Result Topology TopoFault → Type 0
+Gives (Ok topology) come = come ≡ Ok topology
+Gives (Err stop.Memory) come = ⊤
+Gives (Err (stop.Fault placed)) come = come ≡ Err (fault_of placed)
+
+-- the bytes are a document, and this is its outcome, addresses and boundaries read by their grammar
+pub record Comes (bytes : List ℕ) (answer : Result Topology TopoFault) : Type 0 where
+  pub document : Members
+  pub is_document : IsDocument bytes document
+  pub comes : (net : Net) → IsRight net → outcome net document ≡ answer
+
+-- what an answer says of the bytes
+abbrev pub Says : List ℕ → Result Topology TopoFault → Type 0
+Says bytes (Ok topology) = Comes bytes (Ok topology)
+Says bytes (Err NotToml) = (d : Members) → IsDocument bytes d → ⊥
+Says bytes (Err (WrongShape part entry)) = Comes bytes (Err (WrongShape part entry))
+Says bytes (Err (Rule rule part entry)) = Comes bytes (Err (Rule rule part entry))
+Says bytes (Err Memory) = ⊤

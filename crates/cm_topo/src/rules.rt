@@ -1,0 +1,41 @@
+//! The rules by their numbers, and how many entries there may be.
+
+pub(crate) const BAD_ADDRESS: u8 = 1;
+
+pub(crate) const BAD_LENGTH: u8 = 2;
+
+pub(crate) const RANGE_BACKWARDS: u8 = 3;
+
+pub(crate) const HOST_BITS_SET: u8 = 4;
+
+pub(crate) const MIXED_FAMILIES: u8 = 5;
+
+pub(crate) const SAME_NAME: u8 = 6;
+
+pub(crate) const NO_SUCH_GROUP: u8 = 7;
+
+pub(crate) const NO_SUCH_BOUNDARY: u8 = 8;
+
+pub(crate) const SELF_RELATION: u8 = 9;
+
+pub(crate) const SAME_RELATION: u8 = 10;
+
+pub(crate) const TOO_LONG_FALLBACK: u8 = 11;
+
+pub(crate) const NO_SUCH_POINT: u8 = 12;
+
+pub(crate) const PULL_FROM_ITSELF: u8 = 13;
+
+pub(crate) const NO_PULL_SOURCE: u8 = 14;
+
+pub(crate) const TOO_MANY: u8 = 15;
+
+pub(crate) const BAD_NAME: u8 = 16;
+
+pub(crate) const MOST_RELATIONS: usize = 64;
+
+pub(crate) const MOST_MINUTES: u16 = 10_000;
+
+pub(crate) const MOST_PRIORITY: u16 = 255;
+
+pub(crate) const MOST_CONNECTIONS: u16 = 65_535;
