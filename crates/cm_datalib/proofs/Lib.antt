@@ -3,7 +3,6 @@ pub mod Decimals
 pub mod Loaded
 pub mod Names
 pub mod Quiet
-pub mod Rises
 pub mod Steps
 pub mod Stores
 pub mod Writes

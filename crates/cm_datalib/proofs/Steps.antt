@@ -8,9 +8,9 @@ use Rattle.std.proofs.lemmas.Bool.{false≢true}
 use Rattle.std.proofs.lemmas.Option.{same_Some, none-some}
 use Rattle.cm_disk.specs.Disk.{Files, is_above, IsNext}
 use Rattle.cm_datalib.specs.Places.{folder, folder_end, manifest_place, version_named, is_manifest_place, stored}
-use Rattle.cm_datalib.specs.Walks.{IsText, Rises}
+use Rattle.cm_disk.specs.Ranks.{IsText, Rises}
 use Rattle.cm_datalib.proofs.Names.{named_place, is_within, not_past, stored_is, is_stored}
-use Rattle.cm_datalib.proofs.Rises.{nearer, above_above}
+use Rattle.cm_disk.proofs.Rises.{nearer, above_above}
 
 -- no place at all
 pub no_place : (files : Files) (at : List ℕ) → IsNext files (Some at) None → IsNext (stored files) (Some at) None

@@ -9,7 +9,7 @@ use Rattle.std.proofs.lemmas.List.{append-nil, length-take-le, drop_all}
 use Rattle.std.proofs.lemmas.Option.{same_Some}
 use Rattle.std.proofs.lemmas.Slice.Eq.{bytes_eq-Decides}
 use Rattle.cm_disk.specs.Disk.{File, Files, bytes_of, byte_at, put, written, shortened, IsPartly, Does}
-use Rattle.cm_disk.proofs.Puts.{put_here, told_before}
+use Rattle.cm_disk.proofs.Puts.{put_here, put_put, told_before}
 
 get_front : (xs ys : List ℕ) (i : ℕ) → i < length xs → slice_get (xs ++ ys) i ≡ slice_get xs i
 get_front [] ys i lt = absurd (omega arith)
@@ -69,13 +69,6 @@ put_same files place = λ i q. at q (bytes_eq place q) refl i
     at : (q : List ℕ) (b : Bool) → bytes_eq place q ≡ b → put files place (files place) q ≡ files q
     at q true is = ap (λ (b : Bool). if b then files place else files q) is ∙ ap files ((bytes_eq-Decides place q).0 is)
     at q false is = ap (λ (b : Bool). if b then files place else files q) is
-
-pub put_put : (files : Files) (place : List ℕ) (a b : File) → put (put files place a) place b ≡ put files place b
-put_put files place a b = λ i q. at q (bytes_eq place q) i
-  where
-    at : (q : List ℕ) (c : Bool) → (if c then b else (if c then a else files q)) ≡ (if c then b else files q)
-    at q true = refl
-    at q false = refl
 
 -- a front of the work is done
 pub partly_of : (file after : File) (at : ℕ) (p rest : List ℕ) → at ≤ length (bytes_of file) → after ≡ Some (take at (bytes_of file) ++ p ++ rest) → IsPartly file after (written at p file)

@@ -1,5 +1,4 @@
 pub mod Loads
 pub mod Places
-pub mod Ranks
 pub mod Spellings
 pub mod Walks

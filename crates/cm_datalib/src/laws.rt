@@ -8,17 +8,12 @@ ghost use Rattle.cm_tree.specs.declared.entry.Entry.{Entry as entry_value};
 ghost use Rattle.cm_tree.specs.Manifests.{IsManifest, spelling};
 ghost use Rattle.cm_datalib.specs.Loads.{loaded};
 ghost use Rattle.cm_datalib.specs.Places.{manifest_place, is_version, version_named};
-ghost use Rattle.cm_datalib.specs.Ranks.{ahead};
+ghost use Rattle.cm_disk.specs.Ranks.{ahead};
 
 /// The place of a manifest names its version, and no other place does.
 pub fn a_place_names_its_version()
     ensures named { (id : List ℕ) (version : ℕ) → is_version id version ≡ true → version_named (manifest_place id version) ≡ Some (id, version) }
     ensures only { (place id : List ℕ) (version : ℕ) → version_named place ≡ Some (id, version) → place ≡ manifest_place id version }
-{}
-
-/// A place above another is nearer to the end of a walk.
-pub fn a_place_above_is_nearer_to_the_end()
-    ensures { (at place : List ℕ) → IsBytes at → length at ≤ 120 → length place ≤ 120 → is_above (Some at) place ≡ true → ahead (Some place) < ahead (Some at) }
 {}
 
 /// What was stored is loaded, by the size and the SHA-256 of its spelling.

@@ -4,7 +4,7 @@ ghost use Rattle.std.specs.Fmt.{decimal};
 ghost use Rattle.hex.specs.Hex.{IsBytes};
 ghost use Rattle.cm_disk.specs.Disk.{is_above};
 ghost use Rattle.cm_datalib.specs.Places.{folder, folder_end, manifest_place, version_named};
-ghost use Rattle.cm_datalib.specs.Walks.{IsText};
+ghost use Rattle.cm_disk.specs.Ranks.{IsText};
 
 use crate::decimal::write_decimal;
 use crate::putting::put;

@@ -4,8 +4,8 @@ ghost use Rattle.std.specs.Option.{ForSome};
 ghost use Rattle.cm_base.specs.Causes.{HasCause};
 ghost use Rattle.cm_disk.specs.Disk.{Files, IsImage, LeavesNoMore, LeavesOnly, Elapses, is_above, IsNext};
 ghost use Rattle.cm_datalib.specs.Places.{manifest_place, place_or_none, stored};
-ghost use Rattle.cm_datalib.specs.Ranks.{ahead};
-ghost use Rattle.cm_datalib.specs.Walks.{IsStep, Rises, GoesUp};
+ghost use Rattle.cm_disk.specs.Ranks.{ahead, Rises};
+ghost use Rattle.cm_datalib.specs.Walks.{IsStep, GoesUp};
 
 use crate::places::{folder_place, is_past, manifest_at, tell_text, version_at};
 use crate::step::Step;

@@ -16,6 +16,14 @@ put_there files place file q other = at (bytes_eq place q) refl
     at true is = absurd (other (sym ((bytes_eq-Decides place q).0 is)))
     at false is = ap (λ (b : Bool). if b then file else files q) is
 
+-- the last of two files at one place
+pub put_put : (files : Files) (place : List ℕ) (a b : File) → put (put files place a) place b ≡ put files place b
+put_put files place a b = λ i q. at q (bytes_eq place q) i
+  where
+    at : (q : List ℕ) (c : Bool) → (if c then b else (if c then a else files q)) ≡ (if c then b else files q)
+    at q true = refl
+    at q false = refl
+
 -- a disk that tells now told before
 pub told_before : {T U : Type 0} (old : Option T) (new : Option U) → (old ≡ None → new ≡ None) → (x : U) → new ≡ Some x → (y : T) × (old ≡ Some y)
 told_before (Some y) new silent x told = (y, refl)

@@ -1,6 +1,7 @@
 pub mod Disk
 pub mod HostNames
 pub mod Images
+pub mod Ranks
 pub mod Recorded
 pub mod Slots
 pub mod Stands

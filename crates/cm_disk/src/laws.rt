@@ -29,3 +29,8 @@ pub fn what_is_durable_is_left()
 pub fn a_disk_as_it_reads_is_left()
     ensures { (calls : List Call) → IsImage (left_after calls) (files_after calls) }
 {}
+
+/// A place above another is nearer to the end of a walk.
+pub fn a_place_above_is_nearer_to_the_end()
+    ensures { (at place : List ℕ) → IsBytes at → length at ≤ 120 → length place ≤ 120 → is_above (Some at) place ≡ true → ahead (Some place) < ahead (Some at) }
+{}

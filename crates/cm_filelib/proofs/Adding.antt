@@ -8,7 +8,7 @@ use Rattle.std.proofs.lemmas.Slice.Eq.{bytes_eq-Decides}
 use Rattle.sha2.specs.Sha256.{sha256}
 use Rattle.cm_base.specs.Fed.{WasFed}
 use Rattle.cm_disk.specs.Disk.{File, Files, bytes_of, put, written, shortened, IsPartly, Does, Only}
-use Rattle.cm_disk.proofs.Puts.{put_here}
+use Rattle.cm_disk.proofs.Puts.{put_here, put_put}
 use Rattle.cm_filelib.specs.declared.writing.Writing.{Writing}
 use Rattle.cm_filelib.specs.Places.{file_place}
 use Rattle.cm_filelib.specs.Stored.{is_file_of, IsKept, emptied, appended}
@@ -103,14 +103,6 @@ kept_true files may_leave at hash size is true_ only = by (files (file_place has
     by (Some bytes) reads t =
         let parts = both (length bytes == size) (bytes_eq (sha256 bytes) hash) t in
         kept_by files may_leave at hash bytes size is reads ((bytes_eq-Decides (sha256 bytes) hash).0 parts.1) (eqb-true (length bytes) size parts.0) only
-
--- the last of two files at one place
-put_put : (files : Files) (place : List ℕ) (a b : File) → put (put files place a) place b ≡ put files place b
-put_put files place a b = λ i q. at q (bytes_eq place q) i
-  where
-    at : (q : List ℕ) (c : Bool) → (if c then b else (if c then a else files q)) ≡ (if c then b else files q)
-    at q true = refl
-    at q false = refl
 
 -- a file that is made, and is then not emptied, or only in part
 pub empties_err : {T E : Type 0} (old mid new : Option Files) (at place : List ℕ) (r : Result T E) → IsErr r → at ≡ place

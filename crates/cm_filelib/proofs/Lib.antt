@@ -2,6 +2,5 @@ pub mod Adding
 pub mod Digits
 pub mod Names
 pub mod Quiet
-pub mod Rises
 pub mod Steps
 pub mod Wholes

@@ -1,5 +1,4 @@
 pub mod Places
-pub mod Ranks
 pub mod Stored
 pub mod Writings
 pub mod Walks

@@ -3,7 +3,7 @@ ghost use Rattle.std.specs.Prelude.{◌≡◌, option_map};
 ghost use Rattle.hex.specs.Hex.{IsBytes};
 ghost use Rattle.cm_disk.specs.Disk.{is_above};
 ghost use Rattle.cm_filelib.specs.Places.{folder, folder_end, file_place, hash_named};
-ghost use Rattle.cm_filelib.specs.Walks.{IsText};
+ghost use Rattle.cm_disk.specs.Ranks.{IsText};
 
 use cm_base::{Hash, Place};
 

@@ -4,8 +4,8 @@ ghost use Rattle.std.specs.Option.{ForSome};
 ghost use Rattle.cm_base.specs.Causes.{HasCause};
 ghost use Rattle.cm_disk.specs.Disk.{Files, IsImage, LeavesNoMore, LeavesOnly, Elapses, is_above, IsNext};
 ghost use Rattle.cm_filelib.specs.Places.{file_place, place_or_none, stored};
-ghost use Rattle.cm_filelib.specs.Ranks.{ahead};
-ghost use Rattle.cm_filelib.specs.Walks.{IsStep, Rises, GoesUp};
+ghost use Rattle.cm_disk.specs.Ranks.{ahead, Rises};
+ghost use Rattle.cm_filelib.specs.Walks.{IsStep, GoesUp};
 
 use crate::places::{file_at, folder_place, hash_at, is_past, tell_text};
 use crate::step::Step;

@@ -5,8 +5,7 @@ use Rattle.std.specs.Option.{ForSome}
 use Rattle.std.proofs.Math.Seq.{take-add}
 use Rattle.cm_base.specs.declared.hash.Hash.{Hash}
 use Rattle.cm_disk.specs.Disk.{File, Files, put}
-use Rattle.cm_disk.proofs.Puts.{put_here}
-use Rattle.cm_log.proofs.Written.{put_put}
+use Rattle.cm_disk.proofs.Puts.{put_here, put_put}
 use Rattle.cm_filelib.specs.declared.writing.Writing.{Writing}
 use Rattle.cm_filelib.specs.Places.{file_place}
 use Rattle.cm_filelib.specs.Stored.{appended}

@@ -15,11 +15,3 @@ may_cut files x place bytes is =
 pub cut_file : (files : Files) (place bytes : List ℕ) → shortened (length bytes) (put files place (written 0 bytes (files place)) place) ≡ Some bytes
 cut_file files place bytes =
     ap (λ (f : File). shortened (length bytes) f) (put_here files place (written 0 bytes (files place))) ∙ ap (λ (l : List ℕ). Some l) (take-append_seam bytes (drop (0 + length bytes) (bytes_of (files place))))
-
--- the last of two files at one place
-pub put_put : (files : Files) (place : List ℕ) (a b : File) → put (put files place a) place b ≡ put files place b
-put_put files place a b = λ i q. at q (bytes_eq place q) i
-  where
-    at : (q : List ℕ) (c : Bool) → (if c then b else (if c then a else files q)) ≡ (if c then b else files q)
-    at q true = refl
-    at q false = refl

@@ -4,9 +4,8 @@ use Rattle.std.specs.Option.{ForSome}
 use Rattle.std.proofs.lemmas.Result.{IfOk-weaker}
 use Rattle.cm_disk.specs.Disk.{Files, IsNext}
 use Rattle.cm_datalib.specs.Places.{manifest_place, place_or_none, stored}
-use Rattle.cm_datalib.specs.Ranks.{ahead}
-use Rattle.cm_datalib.specs.Walks.{Rises}
-use Rattle.cm_datalib.proofs.Rises.{nearer_first}
+use Rattle.cm_disk.specs.Ranks.{ahead, Rises}
+use Rattle.cm_disk.proofs.Rises.{nearer_first}
 use Rattle.cm_datalib.proofs.Steps.{first_of_all}
 use Rattle.cm_datalib.proofs.walking.next.Goals as goal
 

@@ -2,9 +2,10 @@ use Rattle.std.proofs.Common.{refl, ◌∙◌, subst, arith}
 use Rattle.std.specs.Prelude.{None, Some}
 use Rattle.cm_filelib.specs.declared.step.Step.{Step}
 use Rattle.cm_filelib.specs.Places.{file_place, stored}
-use Rattle.cm_filelib.specs.Walks.{IsStep, Rises, GoesUp}
+use Rattle.cm_disk.specs.Ranks.{Rises}
+use Rattle.cm_filelib.specs.Walks.{IsStep, GoesUp}
 use Rattle.cm_filelib.proofs.Quiet.{quiet_start, quiet_next}
-use Rattle.cm_filelib.proofs.Rises.{above_above}
+use Rattle.cm_disk.proofs.Rises.{above_above}
 use Rattle.cm_filelib.proofs.Steps.{next_from}
 use Rattle.cm_filelib.proofs.walking.first_above.Goals as goal
 

@@ -5,9 +5,8 @@ use Rattle.std.proofs.lemmas.Result.{IfOk-weaker}
 use Rattle.cm_base.specs.declared.hash.Hash.{Hash}
 use Rattle.cm_disk.specs.Disk.{Files, IsNext}
 use Rattle.cm_filelib.specs.Places.{file_place, place_or_none, stored}
-use Rattle.cm_filelib.specs.Ranks.{ahead}
-use Rattle.cm_filelib.specs.Walks.{Rises}
-use Rattle.cm_filelib.proofs.Rises.{nearer_first}
+use Rattle.cm_disk.specs.Ranks.{ahead, Rises}
+use Rattle.cm_disk.proofs.Rises.{nearer_first}
 use Rattle.cm_filelib.proofs.Steps.{first_of_all}
 use Rattle.cm_filelib.proofs.walking.next.Goals as goal
 

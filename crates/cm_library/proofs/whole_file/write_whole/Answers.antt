@@ -2,8 +2,8 @@ use Rattle.std.proofs.Common.{sym, ◌∙◌, ap}
 use Rattle.std.specs.Prelude.{Some}
 use Rattle.std.proofs.lemmas.Option.{same_Some}
 use Rattle.cm_disk.specs.Disk.{File, Files, put, written}
-use Rattle.cm_disk.proofs.Puts.{told_before}
-use Rattle.cm_log.proofs.Written.{may_cut, cut_file, put_put}
+use Rattle.cm_disk.proofs.Puts.{told_before, put_put}
+use Rattle.cm_log.proofs.Written.{may_cut, cut_file}
 use Rattle.cm_library.proofs.whole_file.write_whole.Goals as goal
 
 pub cut-requires : goal.cut-requires

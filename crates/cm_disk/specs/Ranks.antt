@@ -1,5 +1,7 @@
 -- How many places may stand above one.
-use Rattle.std.specs.Prelude.{ℕ, zero, suc, ◌+◌, ◌-◌, ◌*◌, List, [], ◌∷◌, Option, None, Some}
+use Rattle.std.specs.Prelude.{◌≡◌, ℕ, zero, suc, ◌+◌, ◌-◌, ◌*◌, ◌<◌, ◌≤◌, true, List, [], ◌∷◌, length, Option, None, Some}
+use Rattle.hex.specs.Hex.{IsBytes}
+use Rattle.cm_disk.specs.Disk.{is_above}
 
 -- 257 for each byte that a text may have
 unfoldable pub scale : ℕ → ℕ
@@ -16,3 +18,13 @@ rank (suc most) (byte ∷ text) = (byte + 1) * scale most + rank most text
 unfoldable pub ahead : Option (List ℕ) → ℕ
 ahead None = scale 120 + 1
 ahead (Some place) = scale 120 - rank 120 place
+
+-- a text that a place may be
+pub record IsText (text : List ℕ) : Type 0 where
+  pub bytes : IsBytes text
+  pub few : length text ≤ 120
+
+-- it goes up
+pub record Rises (at place : List ℕ) : Type 0 where
+  pub above : is_above (Some at) place ≡ true
+  pub nearer : ahead (Some place) < ahead (Some at)

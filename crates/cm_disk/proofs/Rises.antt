@@ -10,7 +10,7 @@ use Rattle.std.proofs.lemmas.Bool.{false≢true}
 use Rattle.std.proofs.Math.Nat.{mul-le-mul_left}
 use Rattle.hex.specs.Hex.{IsBytes}
 use Rattle.cm_disk.specs.Disk.{is_above}
-use Rattle.cm_filelib.specs.Ranks.{scale, rank, ahead}
+use Rattle.cm_disk.specs.Ranks.{scale, rank, ahead}
 
 some_scale : (most : ℕ) → 0 < scale most
 unfolding scale
