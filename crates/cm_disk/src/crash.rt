@@ -14,7 +14,8 @@ use cm_base::{Memory, Place};
 use std::alloc::{AllocError, Global};
 
 impl MemDisk {
-    /// One image as a disk, all of which is durable: 0 has the durable bytes, 1 what reads give, 2 that with 1 at each touched byte.
+    /// One image as a disk, all of which is durable: 0 has the durable bytes, 1 what reads give, 2 that with 1 at each touched
+    /// byte. It fails at no call. An Err is want of memory.
     pub fn crash(&self, pick: u8) -> Result<MemDisk, Memory>
         requires { pick ≤ 2 }
         ensures picked { IfOk result (λ disk. (q : List ℕ) → stand_at disk q ≡ at_rest (picked pick (stand_at self.now q))) }

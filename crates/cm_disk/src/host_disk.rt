@@ -21,7 +21,7 @@ pub struct HostDisk<R: Files<File = File> + AllocGlobal + Clone + Drop> {
 }
 
 impl<R: Files<File = File> + AllocGlobal + Clone + Drop> HostDisk<R> {
-    /// The files below a folder, which need not be there yet.
+    /// The files below a folder, which need not be there yet: it is made with the first file. An Err is want of memory.
     pub fn new(rt: R, folder: &str) -> Result<HostDisk<R>, Memory>
         ensures { IfOk result (λ disk. ⟦<HostDisk<R> as Disk>⟧.faults disk ≡ 0) }
     {

@@ -19,7 +19,7 @@ use std::alloc::Global;
 use std::collections::BTreeMap;
 
 impl MemDisk {
-    /// An empty disk, which fails at the device calls with these numbers, counted from 0.
+    /// An empty disk, which fails at the device calls with these numbers, counted from 0. An Err is want of memory.
     pub fn new(alloc: Global, fail: Vec<u64>) -> Result<MemDisk, Memory>
         ensures nothing { IfOk result (λ disk. calls_of disk ≡ []) }
         ensures empty { IfOk result (λ disk. (q : List ℕ) → files_of disk q ≡ None) }
@@ -29,7 +29,8 @@ impl MemDisk {
         Ok(MemDisk::made(alloc, fail, None))
     }
 
-    /// An empty disk, which fails at the device call with this number, counted from 0, and at all after it.
+    /// An empty disk, which fails at the device call with this number, counted from 0, and at all after it. An Err is want of
+    /// memory.
     pub fn stopping(alloc: Global, at: u64) -> Result<MemDisk, Memory>
         ensures nothing { IfOk result (λ disk. calls_of disk ≡ []) }
         ensures empty { IfOk result (λ disk. (q : List ℕ) → files_of disk q ≡ None) }
@@ -56,7 +57,7 @@ impl MemDisk {
         }
     }
 
-    /// How many device calls failed for want of memory.
+    /// How many device calls failed for want of memory; it stays at 2^64 - 1.
     pub fn short(&self) -> u64
         ensures { result ≡ short_of self.now }
     {
