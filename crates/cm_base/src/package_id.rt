@@ -1,5 +1,5 @@
 //! The id of a package.
-ghost use Rattle.std.specs.Prelude.{◌≡◌, ◌==◌, ◌&&◌, length, take, drop};
+ghost use Rattle.std.specs.Prelude.{◌≡◌, ◌==◌, ◌&&◌, length, take, drop, true};
 ghost use Rattle.std.specs.List.{list_all};
 ghost use Rattle.cm_base.specs.Names.{is_package_id, is_code_byte, is_upper_hex, text_if};
 
@@ -58,6 +58,7 @@ impl PackageId {
     /// The eight bytes.
     pub fn as_bytes(&self) -> &[u8]
         ensures value { result.now ≡ self.now }
+        ensures form { is_package_id result.now ≡ true }
         ensures eight { length result.now ≡ 8 }
     {
         &self.bytes
