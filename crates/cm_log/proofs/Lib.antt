@@ -5,6 +5,7 @@ pub mod Bytes
 pub mod Done
 pub mod Heads
 pub mod Images
+pub mod Keeping
 pub mod Made
 pub mod Pieces
 pub mod Quiet

@@ -1,5 +1,6 @@
 -- A log and its reader on a disk.
-use Rattle.std.specs.Prelude.{◌≡◌, ◌≢◌, ◌⊎◌, ℕ, ◌+◌, ◌≤◌, ◌==◌, Bool, true, List, [], ◌∷◌, length, Some}
+use Rattle.std.specs.Prelude.{◌≡◌, ◌≢◌, ◌⊎◌, ℕ, ◌+◌, ◌≤◌, ◌==◌, Bool, true, List, [], ◌∷◌, length, Option, Some}
+use Rattle.std.specs.Option.{ForSome}
 use Rattle.cm_disk.specs.Disk.{File, Files, bytes_of, IsImage, Only}
 use Rattle.cm_log.specs.declared.shelf.Shelf.{Shelf}
 use Rattle.cm_log.specs.declared.shelf.Side.{Side}
@@ -8,6 +9,10 @@ use Rattle.cm_log.specs.declared.state.Log.{Log}
 use Rattle.cm_log.specs.declared.position.LogReader.{LogReader}
 use Rattle.cm_log.specs.Shelves.{ready_place, log_place, IsElsewhere}
 use Rattle.cm_log.specs.Logs.{Entry, Reading, Closed, Shelved, NoLog, Live, ended, following, closed, fresh, rest_at, shelved, added}
+
+-- at each place that has P a read gives what it gave before
+abbrev pub KeepsReads : (List ℕ → Type 0) → Option Files → Option Files → Type 0
+KeepsReads P old new = ForSome old (λ files. (now : Files) × (new ≡ Some now) × ((q : List ℕ) → P q → now q ≡ files q))
 
 -- a log's shelf, the place of its file, the place of its closed gate, and how many records it has
 abbrev pub shelf_of : Log → Shelf

@@ -4,7 +4,7 @@ ghost use Rattle.std.specs.Option.{ForSome};
 ghost use Rattle.cm_base.specs.Causes.{Rose};
 ghost use Rattle.cm_disk.specs.Disk.{File, Files, LeavesOnly};
 ghost use Rattle.cm_log.specs.Shelves.{ready_place, IsElsewhere};
-ghost use Rattle.cm_log.specs.Settled.{Rests, Makes, HasNewLog, IsMaking};
+ghost use Rattle.cm_log.specs.Settled.{KeepsReads, Rests, Makes, HasNewLog, IsMaking};
 
 use crate::faults::CreateFault;
 use crate::shelf::{Shelf, Side, log_at, ready_at};
@@ -18,6 +18,8 @@ pub fn create<D: Disk>(disk: &mut D, shelf: Shelf) -> Result<(), CreateFault>
     ensures bytes { OnOk result (ForSome (D.reads disk.old) (λ files. (now : Files) × (D.reads disk.new ≡ Some now) × HasNewLog shelf now)) }
     ensures there { IsErrOf result CreateFault.AlreadyThere → ForSome (D.reads disk.old) (λ files. IsSome (files (ready_place shelf))) }
     ensures same { IsErrOf result CreateFault.AlreadyThere → D.reads disk.new ≡ D.reads disk.old }
+    // Also after a fault of the disk a read gives at each other place what it gave before.
+    ensures kept { KeepsReads (IsElsewhere shelf) (D.reads disk.old) (D.reads disk.new) }
     // After Ok, and where a log is there, a stop leaves at the three places what a read gives.
     ensures rests { OnOk result (ForSome (D.reads disk.new) (λ files. Rests shelf files (D.may_leave disk.new))) }
     ensures rests_there { IsErrOf result CreateFault.AlreadyThere → ForSome (D.reads disk.new) (λ files. Rests shelf files (D.may_leave disk.new)) }

@@ -5,9 +5,11 @@ use Rattle.cm_disk.specs.Disk.{File, Files, put, Only}
 use Rattle.cm_disk.proofs.Puts.{told_before, put_here, put_there}
 use Rattle.cm_log.specs.declared.shelf.Side.TheVariants.{First, Second}
 use Rattle.cm_log.specs.Settled.{Rests}
+use Rattle.cm_log.specs.Shelves.{IsElsewhere}
 use Rattle.cm_log.proofs.Apart.{logs_apart, ready_apart}
+use Rattle.cm_log.proofs.Keeping.{keeps_same, keeps_then, keeps_fewer}
 use Rattle.cm_log.proofs.Quiet.{quiet_start, quiet_next}
-use Rattle.cm_log.proofs.Made.{live_bytes, idle_bytes, no_file, making_quiet, blank, blank_next, fresh_next}
+use Rattle.cm_log.proofs.Made.{live_bytes, idle_bytes, no_ready, is_fresh, no_file, making_quiet, blank, blank_next, fresh_next}
 use Rattle.cm_log.proofs.Rest.{rests_at}
 use Rattle.cm_log.proofs.making.create.Goals as goal
 
@@ -169,5 +171,116 @@ returns-clause-bytes g c x told =
         ready = subst (λ (q : List ℕ). three q ≡ Some []) c.ready_at-ready.ensures (put_here two ready (Some []));
         first = subst (λ (q : List ℕ). three q ≡ Some live_bytes) c.log_at-first.ensures (put_there two ready (Some []) first first_ready ∙ (put_there one second (Some idle_bytes) first first_second ∙ put_here x first (Some live_bytes)));
         second = subst (λ (q : List ℕ). three q ≡ Some idle_bytes) c.log_at-second.ensures (put_there two ready (Some []) second second_ready ∙ put_here one second (Some idle_bytes));
+      },
+    )
+
+pub returns-in_err-sync-clause-kept : goal.returns-in_err-sync-clause-kept
+returns-in_err-sync-clause-kept g c =
+    let d = g.D.Disk in
+    let k = IsElsewhere c.args.shelf in
+    let old = d.reads c.args.disk.now in
+    keeps_same k old (d.reads c.sync.new.self) (c.sync.ensures.same)
+
+pub returns-in_err-size-clause-kept : goal.returns-in_err-size-clause-kept
+returns-in_err-size-clause-kept g c =
+    let d = g.D.Disk in
+    let k = IsElsewhere c.args.shelf in
+    let old = d.reads c.args.disk.now in
+    keeps_same k old (d.reads c.size.new.self) (c.size.ensures.same ∙ c.sync.ensures.same)
+
+pub returns-in_err-sync-2-clause-kept : goal.returns-in_err-sync-2-clause-kept
+returns-in_err-sync-2-clause-kept g c =
+    let d = g.D.Disk in
+    let k = IsElsewhere c.args.shelf in
+    let old = d.reads c.args.disk.now in
+    keeps_same k old (d.reads c.sync-then-is_some.new.self) (c.sync-then-is_some.ensures.same ∙ c.size.ensures.same ∙ c.sync.ensures.same)
+
+pub returns-in_err-sync-3-clause-kept : goal.returns-in_err-sync-3-clause-kept
+returns-in_err-sync-3-clause-kept g c =
+    let d = g.D.Disk in
+    let k = IsElsewhere c.args.shelf in
+    let old = d.reads c.args.disk.now in
+    keeps_same k old (d.reads c.sync-then-is_some-2.new.self) (c.sync-then-is_some-2.ensures.same ∙ c.sync-then-is_some.ensures.same ∙ c.size.ensures.same ∙ c.sync.ensures.same)
+
+pub returns-then-is_some-clause-kept : goal.returns-then-is_some-clause-kept
+returns-then-is_some-clause-kept g c =
+    let d = g.D.Disk in
+    let k = IsElsewhere c.args.shelf in
+    let old = d.reads c.args.disk.now in
+    keeps_same k old (d.reads c.sync-then-is_some-2.new.self) (c.sync-then-is_some-2.ensures.same ∙ c.sync-then-is_some.ensures.same ∙ c.size.ensures.same ∙ c.sync.ensures.same)
+
+pub returns-in_err-write_file-clause-kept : goal.returns-in_err-write_file-clause-kept
+returns-in_err-write_file-clause-kept g c =
+    let d = g.D.Disk in
+    let k = IsElsewhere c.args.shelf in
+    let old = d.reads c.args.disk.now in
+    let start = keeps_same k old (d.reads c.size.new.self) (c.size.ensures.same ∙ c.sync.ensures.same) in
+    let one = keeps_then k old (d.reads c.size.new.self) (d.reads c.write_file.new.disk) start
+    (keeps_fewer (λ q. q ≢ c.log_at-first.result) k (d.reads c.size.new.self) (d.reads c.write_file.new.disk) (λ q e is. e.logs First (is ∙ c.log_at-first.ensures)) c.write_file.ensures.kept) in
+    one
+
+pub returns-in_err-write_file-2-clause-kept : goal.returns-in_err-write_file-2-clause-kept
+returns-in_err-write_file-2-clause-kept g c =
+    let d = g.D.Disk in
+    let k = IsElsewhere c.args.shelf in
+    let old = d.reads c.args.disk.now in
+    let start = keeps_same k old (d.reads c.size.new.self) (c.size.ensures.same ∙ c.sync.ensures.same) in
+    let one = keeps_then k old (d.reads c.size.new.self) (d.reads c.write_file.new.disk) start
+    (keeps_fewer (λ q. q ≢ c.log_at-first.result) k (d.reads c.size.new.self) (d.reads c.write_file.new.disk) (λ q e is. e.logs First (is ∙ c.log_at-first.ensures)) c.write_file.ensures.kept) in
+    let two = keeps_then k old (d.reads c.write_file.new.disk) (d.reads c.write_file-2.new.disk) one
+    (keeps_fewer (λ q. q ≢ c.log_at-second.result) k (d.reads c.write_file.new.disk) (d.reads c.write_file-2.new.disk) (λ q e is. e.logs Second (is ∙ c.log_at-second.ensures)) c.write_file-2.ensures.kept) in
+    two
+
+pub returns-in_err-write_file-3-clause-kept : goal.returns-in_err-write_file-3-clause-kept
+returns-in_err-write_file-3-clause-kept g c =
+    let d = g.D.Disk in
+    let k = IsElsewhere c.args.shelf in
+    let old = d.reads c.args.disk.now in
+    let start = keeps_same k old (d.reads c.size.new.self) (c.size.ensures.same ∙ c.sync.ensures.same) in
+    let one = keeps_then k old (d.reads c.size.new.self) (d.reads c.write_file.new.disk) start
+    (keeps_fewer (λ q. q ≢ c.log_at-first.result) k (d.reads c.size.new.self) (d.reads c.write_file.new.disk) (λ q e is. e.logs First (is ∙ c.log_at-first.ensures)) c.write_file.ensures.kept) in
+    let two = keeps_then k old (d.reads c.write_file.new.disk) (d.reads c.write_file-2.new.disk) one
+    (keeps_fewer (λ q. q ≢ c.log_at-second.result) k (d.reads c.write_file.new.disk) (d.reads c.write_file-2.new.disk) (λ q e is. e.logs Second (is ∙ c.log_at-second.ensures)) c.write_file-2.ensures.kept) in
+    keeps_then k old (d.reads c.write_file-2.new.disk) (d.reads c.write_file-3.new.disk) two
+    (keeps_fewer (λ q. q ≢ c.ready_at-ready.result) k (d.reads c.write_file-2.new.disk) (d.reads c.write_file-3.new.disk) (λ q e is. e.ready (is ∙ c.ready_at-ready.ensures)) c.write_file-3.ensures.kept)
+
+pub returns-clause-kept : goal.returns-clause-kept
+returns-clause-kept g c =
+    let d = g.D.Disk in
+    let k = IsElsewhere c.args.shelf in
+    let old = d.reads c.args.disk.now in
+    let start = keeps_same k old (d.reads c.size.new.self) (c.size.ensures.same ∙ c.sync.ensures.same) in
+    let one = keeps_then k old (d.reads c.size.new.self) (d.reads c.write_file.new.disk) start
+    (keeps_fewer (λ q. q ≢ c.log_at-first.result) k (d.reads c.size.new.self) (d.reads c.write_file.new.disk) (λ q e is. e.logs First (is ∙ c.log_at-first.ensures)) c.write_file.ensures.kept) in
+    let two = keeps_then k old (d.reads c.write_file.new.disk) (d.reads c.write_file-2.new.disk) one
+    (keeps_fewer (λ q. q ≢ c.log_at-second.result) k (d.reads c.write_file.new.disk) (d.reads c.write_file-2.new.disk) (λ q e is. e.logs Second (is ∙ c.log_at-second.ensures)) c.write_file-2.ensures.kept) in
+    keeps_then k old (d.reads c.write_file-2.new.disk) (d.reads c.write_file-3.new.disk) two
+    (keeps_fewer (λ q. q ≢ c.ready_at-ready.result) k (d.reads c.write_file-2.new.disk) (d.reads c.write_file-3.new.disk) (λ q e is. e.ready (is ∙ c.ready_at-ready.ensures)) c.write_file-3.ensures.kept)
+
+pub returns-clause-made : goal.returns-clause-made
+returns-clause-made g c x told =
+    let ready = c.ready_at-ready.result in
+    let first = c.log_at-first.result in
+    let second = c.log_at-second.result in
+    let synced = c.sync.ensures.same ∙ told in
+    let start = c.size.ensures.same ∙ synced in
+    let none = no_file (x c.ready_at-ready.result) c.in_ok-size.field-0 (search rules) (c.in_ok-size.ensures.value x synced) in
+    let one = put x first (Some live_bytes) in
+    let two = put one second (Some idle_bytes) in
+    let three = put two ready (Some []) in
+    let told_one = c.in_ok-write_file.ensures.made x start in
+    let told_two = c.in_ok-write_file-2.ensures.made one told_one in
+    let first_second : first ≢ second = λ e. logs_apart c.args.shelf (sym c.log_at-first.ensures ∙ e ∙ c.log_at-second.ensures) in
+    let first_ready : first ≢ ready = λ e. ready_apart c.args.shelf First (sym c.ready_at-ready.ensures ∙ sym e ∙ c.log_at-first.ensures) in
+    let second_ready : second ≢ ready = λ e. ready_apart c.args.shelf Second (sym c.ready_at-ready.ensures ∙ sym e ∙ c.log_at-second.ensures) in (
+      three,
+      c.in_ok-write_file-3.ensures.made two told_two,
+      record {
+        none = no_ready c.args.shelf x (subst (λ (q : List ℕ). x q ≡ None) c.ready_at-ready.ensures none);
+        made = is_fresh c.args.shelf three [] (subst (λ (q : List ℕ). three q ≡ Some []) c.ready_at-ready.ensures (put_here two ready (Some [])))
+            (subst (λ (q : List ℕ). three q ≡ Some live_bytes) c.log_at-first.ensures (put_there two ready (Some []) first first_ready ∙ (put_there one second (Some idle_bytes) first first_second ∙ put_here x first (Some live_bytes))))
+            (subst (λ (q : List ℕ). three q ≡ Some idle_bytes) c.log_at-second.ensures (put_there two ready (Some []) second second_ready ∙ put_here one second (Some idle_bytes)));
+        others = λ q e. put_there two ready (Some []) q (λ is. e.ready (is ∙ c.ready_at-ready.ensures))
+            ∙ (put_there one second (Some idle_bytes) q (λ is. e.logs Second (is ∙ c.log_at-second.ensures)) ∙ put_there x first (Some live_bytes) q (λ is. e.logs First (is ∙ c.log_at-first.ensures)));
       },
     )
