@@ -1,6 +1,6 @@
 //! A change is written as bytes.
 ghost use Rattle.std.specs.Prelude.{◌≡◌, ◌+◌, ◌≤◌, ◌++◌, length, take};
-ghost use Rattle.cm_pkglib.specs.Changes.{spelled};
+ghost use Rattle.cm_pkglib.specs.Changes.{IsRecord, spelled};
 
 use crate::Change;
 
@@ -22,6 +22,7 @@ impl Change {
         ensures fits { result ≤ 61 }
         ensures length { result ≡ length (spelled self.now) }
         ensures bytes { take result out.new ≡ spelled self.now }
+        ensures record { IsRecord self.now (take result out.new) }
     {
         match self {
             Change::Opened {
