@@ -10,4 +10,3 @@ pub fn a_place_names_its_hash()
     ensures named { (hash : List ℕ) → IsBytes hash → length hash ≡ 32 → hash_named (file_place hash) ≡ Some hash }
     ensures only { (place hash : List ℕ) → hash_named place ≡ Some hash → place ≡ file_place hash }
 {}
-
