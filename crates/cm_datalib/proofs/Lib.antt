@@ -2,7 +2,6 @@ pub mod Alone
 pub mod Decimals
 pub mod Loaded
 pub mod Names
-pub mod Quiet
 pub mod Steps
 pub mod Stores
 pub mod Writes

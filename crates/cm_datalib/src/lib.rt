@@ -8,7 +8,6 @@ pub mod laws;
 mod loading;
 mod places;
 mod putting;
-mod reading;
 mod spelling;
 mod step;
 mod storing;

@@ -11,9 +11,8 @@ ghost use Rattle.cm_datalib.specs.Loads.{loaded, Answers, bad_manifest};
 
 use crate::faults::DataFault;
 use crate::places::manifest_at;
-use crate::reading::hash_file;
 use cm_base::{Hash, PackageId, Place, Version};
-use cm_disk::{Disk, DiskFault};
+use cm_disk::{Disk, DiskFault, hash_file};
 use cm_tree::{Manifest, TreeFault};
 use sha2::{Digest, Sha256};
 use std::alloc::Global;

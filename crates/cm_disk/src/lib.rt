@@ -4,6 +4,7 @@
 mod calls;
 mod crash;
 mod disk;
+mod hashing;
 mod host;
 mod host_disk;
 mod host_listing;
@@ -16,6 +17,7 @@ mod places;
 mod slots;
 
 pub use disk::{Disk, DiskFault};
+pub use hashing::hash_file;
 pub use host_disk::HostDisk;
 pub use laws::{
     a_disk_as_it_reads_is_left, a_place_above_is_nearer_to_the_end,

@@ -1,6 +1,5 @@
 pub mod Adding
 pub mod Digits
 pub mod Names
-pub mod Quiet
 pub mod Steps
 pub mod Wholes

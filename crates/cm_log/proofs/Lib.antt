@@ -8,7 +8,6 @@ pub mod Images
 pub mod Keeping
 pub mod Made
 pub mod Pieces
-pub mod Quiet
 pub mod Readings
 pub mod Rest
 pub mod Shelveds

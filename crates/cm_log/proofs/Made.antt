@@ -14,7 +14,7 @@ use Rattle.cm_log.specs.Heads.{head_of, choice}
 use Rattle.cm_log.specs.Logs.{NoLog, Live, reading_at, head_at, told_by, shelved_by, shelved, IsLook, fresh}
 use Rattle.cm_log.specs.Settled.{IsMaking}
 use Rattle.cm_log.proofs.Apart.{ready_apart}
-use Rattle.cm_log.proofs.Quiet.{Quiet}
+use Rattle.cm_disk.proofs.Quiet.{Quiet}
 
 abbrev pub live_bytes : List ℕ
 live_bytes = 1 ∷ 1 ∷ 1 ∷ 0 ∷ 0 ∷ 0 ∷ 0 ∷ 0 ∷ 0 ∷ 0 ∷ 0 ∷ []

@@ -4,7 +4,7 @@ use Rattle.cm_datalib.specs.declared.step.Step.{Step}
 use Rattle.cm_datalib.specs.Places.{manifest_place, stored}
 use Rattle.cm_disk.specs.Ranks.{Rises}
 use Rattle.cm_datalib.specs.Walks.{IsStep, GoesUp}
-use Rattle.cm_datalib.proofs.Quiet.{quiet_start, quiet_next}
+use Rattle.cm_disk.proofs.Quiet.{quiet_start, quiet_next}
 use Rattle.cm_disk.proofs.Rises.{above_above}
 use Rattle.cm_datalib.proofs.Steps.{next_from}
 use Rattle.cm_datalib.proofs.walking.first_above.Goals as goal

@@ -4,7 +4,7 @@ use Rattle.std.specs.Option.{ForSome}
 use Rattle.cm_disk.specs.Disk.{Files, is_above}
 use Rattle.cm_filelib.specs.Places.{stored}
 use Rattle.cm_disk.specs.Ranks.{ahead}
-use Rattle.cm_filelib.proofs.Quiet.{Quiet}
+use Rattle.cm_disk.proofs.Quiet.{Quiet}
 use Rattle.cm_filelib.proofs.walking.first_above.Given as goal
 
 abbrev pub invariant-loop-hash : goal.invariant-loop-hash

@@ -8,7 +8,7 @@ use Rattle.cm_log.specs.Settled.{Rests}
 use Rattle.cm_log.specs.Shelves.{IsElsewhere}
 use Rattle.cm_log.proofs.Apart.{logs_apart, ready_apart}
 use Rattle.cm_log.proofs.Keeping.{keeps_same, keeps_then, keeps_fewer}
-use Rattle.cm_log.proofs.Quiet.{quiet_start, quiet_next}
+use Rattle.cm_disk.proofs.Quiet.{quiet_start, quiet_next}
 use Rattle.cm_log.proofs.Made.{live_bytes, idle_bytes, no_ready, is_fresh, no_file, making_quiet, blank, blank_next, fresh_next}
 use Rattle.cm_log.proofs.Rest.{rests_at}
 use Rattle.cm_log.proofs.making.create.Goals as goal

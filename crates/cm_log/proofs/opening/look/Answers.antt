@@ -2,7 +2,7 @@ use Rattle.std.proofs.Common.{sym, ap, ◌∙◌, rules}
 use Rattle.cm_log.specs.declared.head.Choice.{Choice}
 use Rattle.cm_log.specs.Logs.{told_by}
 use Rattle.cm_log.proofs.Made.{look_some}
-use Rattle.cm_log.proofs.Quiet.{quiet_start, quiet_next, quiet_join}
+use Rattle.cm_disk.proofs.Quiet.{quiet_start, quiet_next, quiet_join}
 use Rattle.cm_log.proofs.opening.look.Goals as goal
 
 pub returns-in_err-first-clause-run : goal.returns-in_err-first-clause-run

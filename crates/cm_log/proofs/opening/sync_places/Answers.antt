@@ -1,5 +1,5 @@
 use Rattle.std.proofs.Common.{sym, ◌∙◌}
-use Rattle.cm_log.proofs.Quiet.{quiet_start, quiet_next}
+use Rattle.cm_disk.proofs.Quiet.{quiet_start, quiet_next}
 use Rattle.cm_log.proofs.Rest.{rests_at}
 use Rattle.cm_log.proofs.opening.sync_places.Goals as goal
 

@@ -1,4 +1,4 @@
-//! The bytes of a file are hashed.
+//! The bytes of a file on a disk are hashed.
 ghost use Rattle.std.specs.Prelude.{◌≡◌, ◌≤◌, ◌<◌, ◌+◌, ◌-◌, ◌^◌, ◌++◌, ℕ, List, IfOk, length, min, take, drop};
 ghost use Rattle.std.specs.Option.{ForSome};
 ghost use Rattle.sha2.specs.Sha256.{sha256};
@@ -6,15 +6,12 @@ ghost use Rattle.cm_base.specs.Causes.{HasCause};
 ghost use Rattle.cm_base.specs.Fed.{WasFed, count_of};
 ghost use Rattle.cm_disk.specs.Disk.{Files, IsImage, LeavesNoMore, LeavesOnly, Elapses, bytes_of};
 
+use crate::{Disk, DiskFault};
 use cm_base::{FileHasher, Hash, Place};
-use cm_disk::{Disk, DiskFault};
 
-/// How many bytes a file has, and their SHA-256, where it has so many.
-pub(crate) fn hash_file<D: Disk>(
-    disk: &mut D,
-    place: &Place,
-    size: u64,
-) -> Result<(u64, Hash), DiskFault>
+/// How many bytes a file has, and their SHA-256, where it has so many: at most 2^40 + 131,072. A file of another size is read
+/// as far as so many bytes go, and nothing is said of what is answered.
+pub fn hash_file<D: Disk>(disk: &mut D, place: &Place, size: u64) -> Result<(u64, Hash), DiskFault>
     requires { size ≤ 2 ^ 40 + 131072 }
     ensures is { IfOk result (λ got. ForSome (D.reads disk.old) (λ files. length (bytes_of (files place.now)) ≡ size → (got.0 ≡ size) × (got.1.0 ≡ sha256 (bytes_of (files place.now))))) }
     ensures same { D.reads disk.new ≡ D.reads disk.old }

@@ -2,8 +2,8 @@ use Rattle.std.proofs.Common.{ℕ, ◌+◌, List, take, sym, ◌∙◌, ap, subs
 use Rattle.std.proofs.Math.Seq.{take-add}
 use Rattle.cm_base.specs.Fed.{WasFed}
 use Rattle.cm_disk.specs.Disk.{bytes_of}
-use Rattle.cm_filelib.proofs.Quiet.{quiet_next}
-use Rattle.cm_filelib.proofs.salvaging.read_front.Goals as goal
+use Rattle.cm_disk.proofs.Quiet.{quiet_next}
+use Rattle.cm_disk.proofs.hashing.read_front.Goals as goal
 
 pub loop-at-preserved : goal.loop-at-preserved
 loop-at-preserved g c =
