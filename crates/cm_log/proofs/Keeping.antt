@@ -1,6 +1,6 @@
 -- What reads give at other places, over several calls.
-use Rattle.std.proofs.Common.{◌≡◌, ℕ, List, refl, sym, ◌∙◌}
-use Rattle.std.specs.Prelude.{◌≢◌, Option, Some, Result, Ok, Err}
+use Rattle.std.proofs.Common.{◌≡◌, ℕ, List, refl, ◌∙◌}
+use Rattle.std.specs.Prelude.{◌≢◌, Option, Result, Ok, Err}
 use Rattle.cm_disk.specs.Disk.{File, Files, Does, put}
 use Rattle.cm_disk.proofs.Puts.{put_there}
 use Rattle.cm_log.specs.Settled.{KeepsReads}
