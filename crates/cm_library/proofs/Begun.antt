@@ -28,7 +28,7 @@ use Rattle.cm_pkglib.proofs.Among.{none_of_any, none_of_find, All-append}
 use Rattle.cm_pkglib.proofs.Steps.{may_open}
 use Rattle.cm_tree.specs.declared.entry.Entry.{Entry}
 use Rattle.cm_tree.specs.Manifests.{IsManifest, spelling}
-use Rattle.cm_library.specs.Places.{manifest_place}
+use Rattle.cm_datalib.specs.Places.{manifest_place}
 use Rattle.cm_library.specs.State.{Held, State, Begun, Finished, changed, held_of, rows_of}
 use Rattle.cm_library.specs.Look.{has_room}
 use Rattle.cm_library.specs.Sound.{IsNamed, AreNamed}

@@ -14,7 +14,7 @@ use Rattle.cm_log.specs.declared.shelf.Side.{Side}
 use Rattle.cm_log.specs.declared.shelf.Side.TheVariants.{First, Second}
 use Rattle.cm_log.specs.Shelves.{ready_place, log_place}
 use Rattle.cm_filelib.specs.Places.{file_place}
-use Rattle.cm_library.specs.Places.{manifest_place}
+use Rattle.cm_datalib.specs.Places.{manifest_place}
 
 -- by their first letters: D, F, P
 pub manifest_no_file : (id : List ℕ) (version : ℕ) (hash : List ℕ) → manifest_place id version ≢ file_place hash

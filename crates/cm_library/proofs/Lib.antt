@@ -4,7 +4,6 @@ pub mod Elsewhere
 pub mod Lists
 pub mod Keeping
 pub mod MapKept
-pub mod Load
 pub mod Loaded
 pub mod Looks
 pub mod OnEach

@@ -17,7 +17,7 @@ use Rattle.cm_tree.specs.declared.tree_fault.TreeFault.{TreeFault}
 use Rattle.cm_tree.specs.Manifests.{IsManifest, spelling}
 use Rattle.cm_tree.specs.Reading.{read_manifest}
 use Rattle.cm_tree.proofs.Entries.{read_again}
-use Rattle.cm_library.specs.Places.{manifest_place}
+use Rattle.cm_datalib.specs.Places.{manifest_place}
 use Rattle.cm_library.specs.State.{Held, State, Begun, Finished, changed, held_of, rows_of, with_held, with_done as with_held_done}
 use Rattle.cm_library.specs.Look.{counted, manifest_in, held, both, all_held, all_jobs, state_of, loaded}
 use Rattle.cm_library.proofs.Lists.{over_cond, find_map, filter_map, all_filter, found_one}

@@ -17,7 +17,7 @@ use Rattle.cm_pkglib.proofs.Among.{All-append}
 use Rattle.cm_tree.specs.declared.entry.Entry.{Entry}
 use Rattle.cm_tree.specs.declared.tree_fault.TreeFault.{TreeFault}
 use Rattle.cm_tree.specs.Reading.{read_manifest}
-use Rattle.cm_library.specs.Places.{manifest_place}
+use Rattle.cm_datalib.specs.Places.{manifest_place}
 use Rattle.cm_library.specs.State.{Held}
 use Rattle.cm_library.specs.Look.{counted, manifest_in, held, both, all_held, all_jobs, state_of}
 use Rattle.cm_library.specs.Contents.{held_with, job_held_with, manifest_in_map, PutsManifest}

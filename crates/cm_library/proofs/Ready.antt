@@ -21,7 +21,7 @@ use Rattle.cm_tree.specs.declared.entry.Entry.{Entry}
 use Rattle.cm_tree.specs.Manifests.{spelling}
 use Rattle.cm_library.specs.declared.fault.LibFault.{LibFault}
 use Rattle.cm_filelib.specs.Places.{file_place}
-use Rattle.cm_library.specs.Places.{manifest_place}
+use Rattle.cm_datalib.specs.Places.{manifest_place}
 use Rattle.cm_library.specs.State.{State, Begun, Finished, changed, held_of, rows_of}
 use Rattle.cm_library.specs.Look.{has_room}
 use Rattle.cm_library.specs.Sound.{AreFit}

@@ -14,7 +14,7 @@ use Rattle.cm_pkglib.specs.declared.row.PkgRow.{PkgRow}
 use Rattle.cm_pkglib.specs.declared.fault.RowFault.{RowFault}
 use Rattle.cm_pkglib.specs.Changes.{read_change}
 use Rattle.cm_pkglib.specs.Rows.{Rows, no_rows, fault_of, after, step}
-use Rattle.cm_library.specs.Places.{manifest_place}
+use Rattle.cm_datalib.specs.Places.{manifest_place}
 use Rattle.cm_library.specs.State.{Held, State, rows_of}
 use Rattle.cm_library.specs.Look.{Opened, known, rows_after, rows_from, has_room, held, both, all_held, all_jobs, state_of, loaded, opened_or, ended_or, look_at, look}
 use Rattle.cm_library.proofs.Loaded.{HasHeld, HasJob, loaded_is, loaded_state, same_manifest}

@@ -17,7 +17,7 @@ use Rattle.cm_pkglib.specs.Changes.{spelled, IsChange}
 use Rattle.cm_pkglib.specs.Rows.{no_rows, fault_of, after}
 use Rattle.cm_pkglib.proofs.Records.{read_spelled}
 use Rattle.cm_filelib.specs.Places.{file_place}
-use Rattle.cm_library.specs.Places.{manifest_place}
+use Rattle.cm_datalib.specs.Places.{manifest_place}
 use Rattle.cm_library.specs.State.{State, rows_of}
 use Rattle.cm_library.specs.Look.{known, has_room, rows_from}
 use Rattle.cm_library.specs.Open.{StandsIn}

@@ -1,4 +1,3 @@
-pub mod Places
 pub mod Plans
 pub mod State
 pub mod Look

@@ -16,7 +16,7 @@ use Rattle.cm_pkglib.specs.Rows.{Rows, no_rows, step}
 use Rattle.cm_tree.specs.declared.entry.Entry.{Entry}
 use Rattle.cm_tree.specs.declared.tree_fault.TreeFault.{TreeFault}
 use Rattle.cm_tree.specs.Reading.{read_manifest}
-use Rattle.cm_library.specs.Places.{manifest_place}
+use Rattle.cm_datalib.specs.Places.{manifest_place}
 use Rattle.cm_library.specs.State.{Held, State}
 
 pub data Library : Type 0 where

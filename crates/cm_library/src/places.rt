@@ -1,6 +1,6 @@
 //! The places of a library's manifests.
 ghost use Rattle.std.specs.Prelude.{◌≡◌, IfOk};
-ghost use Rattle.cm_library.specs.Places.{manifest_place};
+ghost use Rattle.cm_datalib.specs.Places.{manifest_place};
 
 use cm_base::{Memory, PackageId, Place, Version};
 use std::alloc::Global;

@@ -1,7 +1,7 @@
 //! A worked example of the definitions, against bytes that another program computed.
 ghost use Rattle.std.specs.Prelude.{◌≡◌, ◌∷◌, [], None, Some, length, codes, drop};
 ghost use Rattle.cm_filelib.specs.Places.{file_place};
-ghost use Rattle.cm_library.specs.Places.{manifest_place};
+ghost use Rattle.cm_datalib.specs.Places.{manifest_place};
 ghost use Rattle.cm_library.specs.Worked.{hash_of_abc, three_entries, three_manifest, three_opened, three_done, spelled_log, three_log};
 ghost use Rattle.cm_pkglib.specs.Changes.{spelled, read_change};
 ghost use Rattle.cm_tree.specs.Manifests.{spelling};
