@@ -89,21 +89,14 @@ pub opening_is : (job : ℕ) (id : List ℕ) (version entries : ℕ) (row : PkgR
 opening_is job id version entries row manifest e is =
     ap (λ (n : ℕ). OpenedChange job id version n row.size row.hash) e ∙ ap (λ (r : PkgRow). OpenedChange job id version (length manifest) r.size r.hash) is
 
-pub begun_adds : (files now : Files) (log : Log) (place bytes : List ℕ) (change : Change) (job : ℕ) (id : List ℕ) (version : ℕ) (manifest : List Entry) → place ≡ manifest_place id version → bytes ≡ spelling manifest → change ≡ opening job id version manifest
-    → Adds (shelf_of log) (place_of log) (put files place (Some bytes)) now (spelled change) → Adds (shelf_of log) (place_of log) (put files (manifest_place id version) (Some (spelling manifest))) now (spelled (opening job id version manifest))
-begun_adds files now log place bytes change job id version manifest p b ch adds =
-    subst (λ (q : List ℕ). Adds (shelf_of log) (place_of log) (put files q (Some (spelling manifest))) now (spelled (opening job id version manifest))) p
-    (subst (λ (x : List ℕ). Adds (shelf_of log) (place_of log) (put files place (Some x)) now (spelled (opening job id version manifest))) b
-    (subst (λ (x : Change). Adds (shelf_of log) (place_of log) (put files place (Some bytes)) now (spelled x)) ch adds))
-
 -- the places of files do not change
 pub keeps_file : (files now : Files) (old : List ℕ → File → Type 0) (log : Log) (s : State) (body : List ℕ) → shelf_of log ≡ PkgLib → StandsIn files old log s → Adds (shelf_of log) (place_of log) files now body → (hash : List ℕ) → now (file_place hash) ≡ files (file_place hash)
 keeps_file files now old log s body shelf st adds hash =
     let side = log_side files (place_of log) (closed st.settled.ends.entries (end_of log)) (live_at files log shelf st.settled.ends) in
     adds.others (file_place hash) (λ e. file_no_log hash side.0 (e ∙ side.1))
 
-pub keeps_file_put : (files now : Files) (old : List ℕ → File → Type 0) (log : Log) (s : State) (place bytes body : List ℕ) (id : List ℕ) (version : ℕ) → place ≡ manifest_place id version → shelf_of log ≡ PkgLib → StandsIn files old log s
-    → Adds (shelf_of log) (place_of log) (put files place (Some bytes)) now body → (hash : List ℕ) → now (file_place hash) ≡ files (file_place hash)
-keeps_file_put files now old log s place bytes body id version p shelf st adds hash =
+pub keeps_file_put : (files now : Files) (old : List ℕ → File → Type 0) (log : Log) (s : State) (bytes body : List ℕ) (id : List ℕ) (version : ℕ) → shelf_of log ≡ PkgLib → StandsIn files old log s
+    → Adds (shelf_of log) (place_of log) (put files (manifest_place id version) (Some bytes)) now body → (hash : List ℕ) → now (file_place hash) ≡ files (file_place hash)
+keeps_file_put files now old log s bytes body id version shelf st adds hash =
     let side = log_side files (place_of log) (closed st.settled.ends.entries (end_of log)) (live_at files log shelf st.settled.ends) in
-    adds.others (file_place hash) (λ e. file_no_log hash side.0 (e ∙ side.1)) ∙ put_there files place (Some bytes) (file_place hash) (λ e. manifest_no_file id version hash (sym (e ∙ p)))
+    adds.others (file_place hash) (λ e. file_no_log hash side.0 (e ∙ side.1)) ∙ put_there files (manifest_place id version) (Some bytes) (file_place hash) (λ e. manifest_no_file id version hash (sym e))

@@ -106,11 +106,7 @@ impl<D: Disk> Library<D> {
             Ok(plan) => plan,
             Err(_) => return Err(LibFault::Memory),
         };
-        let copy = match manifest.copy(alloc) {
-            Ok(copy) => copy,
-            Err(_) => return Err(LibFault::Memory),
-        };
-        let job = match self.begin(package, version, copy) {
+        let job = match self.begin_with(package, version, &manifest) {
             Ok(job) => job,
             Err(fault) => return Err(fault),
         };

@@ -6,10 +6,10 @@ ghost use Rattle.cm_base.specs.Causes.{Rose, HasCause};
 ghost use Rattle.cm_base.specs.Names.{is_package_id};
 ghost use Rattle.cm_disk.specs.Disk.{File, Files, put};
 ghost use Rattle.cm_log.specs.declared.shelf.Shelf.TheVariants.{PkgLib};
-ghost use Rattle.cm_log.specs.Shelves.{IsElsewhere};
 ghost use Rattle.cm_log.specs.Settled.{shelf_of, place_of, end_of as log_end, is_settled, IsSettled, Adds};
 ghost use Rattle.cm_pkglib.specs.Changes.{spelled};
 ghost use Rattle.cm_tree.specs.Manifests.{spelling, IsManifest};
+ghost use Rattle.cm_datalib.specs.Places.{manifest_place};
 ghost use Rattle.cm_library.specs.State.{Begun, Finished, changed, held_of};
 ghost use Rattle.cm_library.specs.Changes.{Told, KeepsStore};
 ghost use Rattle.cm_library.specs.Faults.{of_row_fault, begin_fault, finish_fault, Refuses, RefusesOr};
@@ -18,9 +18,8 @@ ghost use Rattle.cm_library.specs.Open.{disk_of, state_of, end_of, IsOpen};
 use crate::commits::add_record;
 use crate::fault::LibFault;
 use crate::library::Library;
-use crate::places::manifest_at;
-use crate::whole_file::write_whole;
-use cm_base::{Hash, JobId, Memory, PackageId, Place, Version};
+use cm_base::{Hash, JobId, Memory, PackageId, Version};
+use cm_datalib::store;
 use cm_disk::{Disk, DiskFault};
 use cm_log::Log;
 use cm_pkglib::{Change, PkgRow, RowFault};
@@ -46,26 +45,24 @@ fn of_rows(fault: RowFault) -> LibFault
     }
 }
 
-// The row of a version with this manifest, and the bytes that spell the manifest.
+// The row of a version with this manifest.
 fn row_of(
     alloc: Global,
     package: PackageId,
     version: Version,
     manifest: &Manifest,
-) -> Result<(PkgRow, Vec<u8>), Memory>
-    ensures row { IfOk result (λ made. made.0 ≡ (held_of «package» version manifest.now).row) }
-    ensures bytes { IfOk result (λ made. made.1.items ≡ spelling manifest.now) }
-    ensures fits { IfOk result (λ made. (length manifest.now < 2 ^ 32) × (length (spelling manifest.now) < 2 ^ 32) × IsManifest manifest.now) }
+) -> Result<PkgRow, Memory>
+    ensures row { IfOk result (λ row. row ≡ (held_of «package» version manifest.now).row) }
+    ensures fits { IfOk result (λ row. (length manifest.now < 2 ^ 32) × (length (spelling manifest.now) < 2 ^ 32) × IsManifest manifest.now) }
 {
     let bytes = manifest.encode(alloc)?;
-    let row = PkgRow {
+    Ok(PkgRow {
         package,
         version,
         entries: manifest.entries().len() as u32,
         size: manifest.encoded_len(),
         hash: Hash(Sha256::digest(bytes.as_slice())),
-    };
-    Ok((row, bytes))
+    })
 }
 
 // A job's number is in its range, which is said here alone.
@@ -91,25 +88,24 @@ fn is_recordable(job: JobId, id: PackageId, version: Version) -> bool
 fn store_and_commit<D: Disk>(
     log: &mut Log,
     disk: &mut D,
-    place: &Place,
-    bytes: &[u8],
+    package: PackageId,
+    version: Version,
+    manifest: &Manifest,
     change: &Change,
 ) -> Result<(), DiskFault>
-    requires size { length bytes.now < 2 ^ 32 }
-    requires elsewhere { IsElsewhere PkgLib place.now }
     requires shelf { shelf_of log.old ≡ PkgLib }
     requires idle { is_settled log.old ≡ true }
     requires settled { ForSome (D.reads disk.old) (λ files. IsSettled files (D.may_leave disk.old) log.old) }
     requires room { log_end log.old + length (spelled change.now) + 6 ≤ 2 ^ 40 }
     ensures idle { OnOk result (is_settled log.new ≡ true) }
     ensures settled { OnOk result (ForSome (D.reads disk.new) (λ files. IsSettled files (D.may_leave disk.new) log.new)) }
-    ensures adds { OnOk result (ForSome (D.reads disk.old) (λ files. (now : Files) × (D.reads disk.new ≡ Some now) × Adds (shelf_of log.old) (place_of log.old) (put files place.now (Some bytes.now)) now (spelled change.now))) }
+    ensures adds { OnOk result (ForSome (D.reads disk.old) (λ files. (now : Files) × (D.reads disk.new ≡ Some now) × Adds (shelf_of log.old) (place_of log.old) (put files (manifest_place «package» version) (Some (spelling manifest.now))) now (spelled change.now))) }
     ensures end { OnOk result (log_end log.new ≡ log_end log.old + 5 + length (spelled change.now)) }
     ensures shelf { shelf_of log.new ≡ shelf_of log.old }
     ensures silent { D.reads disk.old ≡ None → D.reads disk.new ≡ None }
     ensures cause { HasCause (D.faults disk.old) (D.faults disk.new) result }
 {
-    write_whole(disk, place, bytes)?;
+    store(disk, package, version, manifest)?;
     add_record(log, disk, change)?;
     Ok(())
 }
@@ -136,6 +132,66 @@ impl<D: Disk> Library<D> {
         }
     }
 
+    // Begins a job for a version with a copy of this manifest.
+    pub(crate) fn begin_with(
+        &mut self,
+        package: PackageId,
+        version: Version,
+        manifest: &Manifest,
+    ) -> Result<JobId, LibFault>
+        requires { IsOpen D.reads D.may_leave self.old }
+        ensures open { OnOk result (IsOpen D.reads D.may_leave self.new) }
+        ensures job { IfOk result (λ job. job ≡ (state_of self.old).next) }
+        ensures state { IfOk result (λ job. state_of self.new ≡ changed (Begun job «package» version manifest.now) (state_of self.old)) }
+        ensures store { OnOk result (Told KeepsStore (D.reads (disk_of self.old)) (D.reads (disk_of self.new))) }
+        ensures refused { Refuses (begin_fault (state_of self.old) (end_of self.old) «package» version (length manifest.now)) result }
+        ensures unchanged { IfErr result (λ fault. fault ≢ LibFault.Disk → self.new ≡ self.old) }
+        ensures later { D.faults (disk_of self.old) ≤ D.faults (disk_of self.new) }
+        ensures cause { IsErrOf result LibFault.Disk → Rose (D.faults (disk_of self.old)) (D.faults (disk_of self.new)) }
+    {
+        let entries = manifest.entries().len() as u32;
+        match self.begin_fault(package, version, entries) {
+            Some(fault) => return Err(fault),
+            None => {}
+        }
+        let job = self.contents.next();
+        if !is_recordable(job, package, version) {
+            return Err(LibFault::Memory);
+        }
+        let row = match row_of(self.alloc, package, version, manifest) {
+            Ok(row) => row,
+            Err(_) => return Err(LibFault::Memory),
+        };
+        let kept = match manifest.copy(self.alloc) {
+            Ok(copy) => copy,
+            Err(_) => return Err(LibFault::Memory),
+        };
+        let change = Change::Opened {
+            job,
+            package,
+            version,
+            entries,
+            size: row.size,
+            hash: row.hash,
+        };
+        self.contents.tells_valid();
+        match self.contents.begin(row, kept) {
+            Ok(()) => {}
+            Err(_) => return Err(LibFault::Memory),
+        }
+        match store_and_commit(
+            &mut self.log,
+            &mut self.disk,
+            package,
+            version,
+            manifest,
+            &change,
+        ) {
+            Ok(()) => Ok(job),
+            Err(_) => Err(LibFault::Disk),
+        }
+    }
+
     /// Begins a job for a version: its manifest is stored, and the job is unfinished. The first cause that holds is answered,
     /// and then nothing has changed; nothing has changed after `Memory` either. After `Disk` nothing is known of the state.
     pub fn begin(
@@ -154,46 +210,7 @@ impl<D: Disk> Library<D> {
         ensures later { D.faults (disk_of self.old) ≤ D.faults (disk_of self.new) }
         ensures cause { IsErrOf result LibFault.Disk → Rose (D.faults (disk_of self.old)) (D.faults (disk_of self.new)) }
     {
-        let entries = manifest.entries().len() as u32;
-        match self.begin_fault(package, version, entries) {
-            Some(fault) => return Err(fault),
-            None => {}
-        }
-        let job = self.contents.next();
-        if !is_recordable(job, package, version) {
-            return Err(LibFault::Memory);
-        }
-        let place = match manifest_at(self.alloc, package, version) {
-            Ok(place) => place,
-            Err(_) => return Err(LibFault::Memory),
-        };
-        let (row, bytes) = match row_of(self.alloc, package, version, &manifest) {
-            Ok(made) => made,
-            Err(_) => return Err(LibFault::Memory),
-        };
-        let change = Change::Opened {
-            job,
-            package,
-            version,
-            entries,
-            size: row.size,
-            hash: row.hash,
-        };
-        self.contents.tells_valid();
-        match self.contents.begin(row, manifest) {
-            Ok(()) => {}
-            Err(_) => return Err(LibFault::Memory),
-        }
-        match store_and_commit(
-            &mut self.log,
-            &mut self.disk,
-            &place,
-            bytes.as_slice(),
-            &change,
-        ) {
-            Ok(()) => Ok(job),
-            Err(_) => Err(LibFault::Disk),
-        }
+        self.begin_with(package, version, &manifest)
     }
 
     /// Finishes a job: its version is there. `NoJob` exactly where the job is not unfinished, and then nothing has changed. It

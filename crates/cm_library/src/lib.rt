@@ -12,7 +12,6 @@ mod loading;
 mod making;
 mod manifests;
 mod opening;
-mod places;
 mod planning;
 mod records;
 mod row;
@@ -20,7 +19,6 @@ mod sealing;
 mod storing;
 mod telling;
 mod told;
-mod whole_file;
 mod whole_trees;
 mod worked;
 
