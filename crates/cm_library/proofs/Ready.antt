@@ -11,14 +11,12 @@ use Rattle.cm_log.specs.declared.state.Log.{Log}
 use Rattle.cm_log.specs.Logs.{closed}
 use Rattle.cm_log.specs.Settled.{shelf_of, place_of, end_of, is_settled, Adds}
 use Rattle.cm_pkglib.specs.declared.row.PkgRow.{PkgRow}
-use Rattle.cm_pkglib.specs.declared.change.Change.{Change}
 use Rattle.cm_pkglib.specs.declared.change.Change.TheVariants.{Opened as OpenedChange, Done}
 use Rattle.cm_pkglib.specs.declared.fault.RowFault.{RowFault}
 use Rattle.cm_pkglib.specs.Changes.{spelled}
 use Rattle.cm_pkglib.specs.Rows.{opened_fault, fault_of}
 use Rattle.cm_pkglib.specs.Valid.{AreValid}
 use Rattle.cm_tree.specs.declared.entry.Entry.{Entry}
-use Rattle.cm_tree.specs.Manifests.{spelling}
 use Rattle.cm_library.specs.declared.fault.LibFault.{LibFault}
 use Rattle.cm_filelib.specs.Places.{file_place}
 use Rattle.cm_datalib.specs.Places.{manifest_place}

@@ -2,7 +2,7 @@
 ghost use Rattle.std.specs.Prelude.{◌≡◌, ◌≤◌, IfOk, IfErr, IsErrOf, ◌⊎◌, Ok};
 ghost use Rattle.std.specs.Option.{ForSome, option_and_then};
 ghost use Rattle.cm_base.specs.Causes.{Rose};
-ghost use Rattle.cm_disk.specs.Disk.{File, Files, LeavesNoMore};
+ghost use Rattle.cm_disk.specs.Disk.{File, LeavesNoMore};
 ghost use Rattle.cm_datalib.specs.Loads.{loaded, Answers};
 ghost use Rattle.cm_library.specs.Look.{manifest_in, counted};
 ghost use Rattle.cm_datalib.specs.Places.{manifest_place};
