@@ -72,16 +72,16 @@ fn in_range(job: JobId)
     let _job = job.number();
 }
 
-// Whether a record can name them, which their types say.
-fn is_recordable(job: JobId, id: PackageId, version: Version) -> bool
+// What a record names is in its ranges, which is said here alone.
+fn are_recordable(job: JobId, id: PackageId, version: Version)
     ensures job { (1 ≤ job) × (job < 2 ^ 64) }
     ensures long { length id ≡ 8 }
     ensures version { (1 ≤ version) × (version < 2 ^ 32) }
-    ensures form { result ≡ true → is_package_id id ≡ true }
+    ensures form { is_package_id id ≡ true }
 {
     let _job = job.number();
     let _version = version.number();
-    PackageId::read(id.as_bytes()).is_some()
+    let _bytes = id.as_bytes();
 }
 
 // Stores a manifest, and then commits the change that names it.
@@ -155,9 +155,7 @@ impl<D: Disk> Library<D> {
             None => {}
         }
         let job = self.contents.next();
-        if !is_recordable(job, package, version) {
-            return Err(LibFault::Memory);
-        }
+        are_recordable(job, package, version);
         let row = match row_of(self.alloc, package, version, manifest) {
             Ok(row) => row,
             Err(_) => return Err(LibFault::Memory),

@@ -27,7 +27,7 @@ store_and_commit-requires-clause-room g c =
     let row = c.in-Ok.row in
     let no = not_spent (end_of was.log) (opened_fault (rows_of was.contents) was.contents.next c.args.package c.args.version (length c.entries.result.now)) (sym c.in-None.ensures) in
     finds_room (end_of was.log) (length (spelled (OpenedChange c.next-job.result c.args.package c.args.version (length c.entries.result.now) row.size row.hash))) no.1
-    (record_length c.next-job.result c.args.package c.args.version (length c.entries.result.now) row.size row.hash c.is_recordable.ensures.long
+    (record_length c.next-job.result c.args.package c.args.version (length c.entries.result.now) row.size row.hash c.are_recordable.ensures.long
     (ap (λ (r : PkgRow). length r.hash.0) c.in-Ok.ensures.row ∙ length-sha256 (spelling c.args.manifest.now)))
 
 pub returns-in-Ok-store_and_commit-clause-open : goal.returns-in-Ok-store_and_commit-clause-open
@@ -52,11 +52,11 @@ returns-in-Ok-store_and_commit-clause-open g c =
     ∙ ap (λ (m : List Entry). changed (Begun s.next row.package row.version m) s) c.in-Ok-copy.ensures
     ∙ ap (λ (r : PkgRow). changed (Begun s.next r.package r.version manifest) s) is_row
     ∙ ap (λ (j : ℕ). changed (Begun j id version manifest) s) (sym c.next-job.ensures) in
-    let size = opening_length job id version manifest c.is_recordable.ensures.long in
+    let size = opening_length job id version manifest c.are_recordable.ensures.long in
     let end : end_of log ≡ end_of was.log + 5 + length (spelled (opening job id version manifest)) = c.in-Ok-store_and_commit.ensures.end ∙ ap (λ (ch : Change). end_of was.log + 5 + length (spelled ch)) change_is in
     let fits = c.in-Ok.ensures.fits in
     record {
-      ready = begun_ready was.log log s c.begin.new.self job id version manifest c.requires.ready c.tells_valid.ensures free no.1 c.is_recordable.ensures.long c.is_recordable.ensures.version.1 size c.in-Ok-store_and_commit.ensures.idle c.store_and_commit.ensures.shelf end now;
+      ready = begun_ready was.log log s c.begin.new.self job id version manifest c.requires.ready c.tells_valid.ensures free no.1 c.are_recordable.ensures.long c.are_recordable.ensures.version.1 size c.in-Ok-store_and_commit.ensures.idle c.store_and_commit.ensures.shelf end now;
       disk = λ x told.
           let before = told_before (d.reads was.disk) (d.reads c.store_and_commit.new.disk) c.store_and_commit.ensures.silent x told in
           let m = c.in-Ok-store_and_commit.ensures.adds before.0 before.1 in
@@ -64,7 +64,7 @@ returns-in-Ok-store_and_commit-clause-open g c =
           let as_begun = subst (λ (ch : Change). Adds (shelf_of was.log) (place_of was.log) (put before.0 (manifest_place id version) (Some (spelling manifest))) x (spelled ch)) change_is adds in
           subst (λ (t : State). StandsIn x (d.may_leave c.store_and_commit.new.disk) log t) (sym now)
           (begun_stands before.0 x (d.may_leave was.disk) (d.may_leave c.store_and_commit.new.disk) was.log log s job id version manifest c.requires.ready.shelf (c.requires.disk before.0 before.1) c.requires.ready.named (c.in-Ok-store_and_commit.ensures.settled x told) as_begun
-          (c.is_recordable.ensures.job, c.is_recordable.ensures.form c.if-not-is_recordable.false, c.is_recordable.ensures.version, fits.0, fits.1, length-sha256 (spelling manifest)) free fits.2 c.is_recordable.ensures.long c.is_recordable.ensures.version.1
+          (c.are_recordable.ensures.job, c.are_recordable.ensures.form, c.are_recordable.ensures.version, fits.0, fits.1, length-sha256 (spelling manifest)) free fits.2 c.are_recordable.ensures.long c.are_recordable.ensures.version.1
           (begun_room s (end_of was.log) job id version manifest free no.1 size));
     }
 
