@@ -4,11 +4,12 @@ use Rattle.std.specs.Option.{option_and_then}
 use Rattle.std.proofs.lemmas.List.{take_more}
 use Rattle.std.proofs.lemmas.Bool.{eqb-true}
 use Rattle.cm_net.specs.Addresses.{decimal, IsPart}
-use Rattle.cm_net.specs.FourReader.{Four, step4, lone4}
+use Rattle.cm_net.specs.FourReader.{Four, start4, step4, lone4}
 use Rattle.cm_net.specs.Written.{IsBits}
 use Rattle.cm_net.proofs.JoinedTexts.{Whole}
-use Rattle.cm_net.proofs.Machines.{run, run-append, run-none}
-use Rattle.cm_net.proofs.FourTexts.{start4, read_decimal, Spelled4, spelled4}
+use Rattle.cm_net.specs.Machines.{run}
+use Rattle.cm_net.proofs.Machines.{run-append, run-none}
+use Rattle.cm_net.proofs.FourTexts.{read_decimal, Spelled4, spelled4}
 
 abbrev pub alone : ℕ → Four
 alone p = record { count = 0; value = 0; part = Some p }

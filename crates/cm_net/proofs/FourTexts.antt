@@ -4,10 +4,11 @@ use Rattle.std.proofs.lemmas.List.{append-nil}
 use Rattle.std.proofs.lemmas.Bool.{cases_lt, lt-ltb, le-ltb, le-leb, leb-true, ltb-true, eqb-true, eqb-false, ne_eqb, and_parts}
 use Rattle.cm_base.specs.Names.{is_digit}
 use Rattle.cm_net.specs.Addresses.{decimal, IsPart, Joined, IsFour}
-use Rattle.cm_net.specs.FourReader.{Four, longer_part, with_part, next_part, step4, whole4, final4}
+use Rattle.cm_net.specs.FourReader.{Four, start4, longer_part, with_part, next_part, step4, whole4, final4}
 use Rattle.cm_net.specs.Texts.{IsFront}
 use Rattle.cm_net.proofs.JoinedTexts.{Whole, join_more, whole_again}
-use Rattle.cm_net.proofs.Machines.{run, run-append, kept, Reads}
+use Rattle.cm_net.specs.Machines.{run}
+use Rattle.cm_net.proofs.Machines.{run-append, kept, Reads}
 
 -- ---- decimal numbers
 
@@ -39,9 +40,6 @@ decimal_longer p d some small digit =
     elim (cases_lt p 10) [ inl low ↦ longer_two p d some low digit | inr high ↦ longer_three p d high small digit ]
 
 -- ---- the machine's steps
-
-abbrev pub start4 : Four
-start4 = record { count = 0; value = 0; part = None }
 
 digit_is : (d : ℕ) → d < 10 → is_digit (48 + d) ≡ true
 digit_is d small = rw (le-leb 48 (48 + d) (omega arith), le-leb (48 + d) 57 (omega arith)) refl

@@ -4,7 +4,8 @@ use Rattle.std.proofs.lemmas.List.{take-append-le}
 use Rattle.std.proofs.lemmas.Slice.Eq.{bytes_eq-Decides}
 use Rattle.std.specs.Str.{bytes_eq}
 use Rattle.cm_net.specs.Free.{IsFree}
-use Rattle.cm_net.proofs.Machines.{run, run-none}
+use Rattle.cm_net.specs.Machines.{run}
+use Rattle.cm_net.proofs.Machines.{run-none}
 
 -- a front of such a text is one
 pub free_take : (sep n : ℕ) (xs : List ℕ) → IsFree sep xs → IsFree sep (take n xs)

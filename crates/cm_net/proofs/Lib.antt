@@ -10,8 +10,10 @@ pub mod Machines
 pub mod Named
 pub mod SixTexts
 pub mod OneMeaning
+pub mod OneReading
 pub mod Reading
 pub mod Rewritten
+pub mod RightReading
 pub mod SiteTexts
 pub mod Spelled
 pub mod Spread

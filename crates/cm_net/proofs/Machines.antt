@@ -1,15 +1,11 @@
 -- A machine that reads a text byte by byte, and the place at which a text leaves the grammar that it reads.
-use Rattle.std.proofs.Common.{◌≡◌, ℕ, ◌+◌, ◌<◌, ◌≤◌, List, [], ◌∷◌, ◌++◌, length, take, drop, get_or, Option, None, Some, refl, sym, ap, ◌∙◌, subst, arith, take_all, take-append-drop, append_assoc}
+use Rattle.std.proofs.Common.{◌≡◌, ℕ, ◌+◌, ◌<◌, ◌≤◌, List, [], ◌∷◌, ◌++◌, length, take, drop, get_or, Option, None, Some, refl, sym, ap, ◌∙◌, subst, arith, take_all, take-append-drop, append_assoc, zero, suc}
 use Rattle.std.specs.Option.{option_and_then}
 use Rattle.std.proofs.lemmas.List.{take_more, append-nil}
+use Rattle.cm_net.specs.Machines.{run}
 use Rattle.cm_net.specs.Texts.{IsFront, LeavesAt}
 
 module _ {S : Type 0} where
-  -- the state behind a text, where the machine reads it
-  abbrev pub run : (S → ℕ → Option S) → Option S → List ℕ → Option S
-  run step o [] = o
-  run step o (b ∷ text) = run step (option_and_then (λ s. step s b) o) text
-
   pub run-append : (step : S → ℕ → Option S) (o : Option S) (xs ys : List ℕ) → run step o (xs ++ ys) ≡ run step (run step o xs) ys
   run-append step o [] ys = refl
   run-append step o (b ∷ xs) ys = run-append step (option_and_then (λ s. step s b) o) xs ys
@@ -99,3 +95,32 @@ module _ {S : Type 0} where
   -- all bytes
   pub run_all : (step : S → ℕ → Option S) (start : S) (text : List ℕ) (at : ℕ) (s : S) → length text ≤ at → run step (Some start) (take at text) ≡ Some s → run step (Some start) text ≡ Some s
   run_all step start text at s all read = ap (λ (x : List ℕ). run step (Some start) x) (sym (take_all at text all)) ∙ read
+
+-- none or some
+pub by_option : {A R : Type 0} (o : Option A) → (o ≡ None → R) → ((a : A) → o ≡ Some a → R) → R
+by_option None none some = none refl
+by_option (Some a) none some = some a refl
+
+take_none : (text : List ℕ) → take 0 text ≡ []
+take_none [] = refl
+take_none (b ∷ text) = refl
+
+module _ {S X : Type 0} (step : S → ℕ → Option S) (start : S) (final : S → Option X) (Means : List ℕ → X → Type 0) (reads : Reads step start final Means) where
+  -- what the machine reads is what the text means
+  pub means_read : (text : List ℕ) (x : X) → option_and_then final (run step (Some start) text) ≡ Some x → Means text x
+  means_read text x is =
+      by_option (run step (Some start) text) (λ e. let no : None ≡ Some x = rw e at is in cc) (λ s e. reads.sound text s x e (rw e at is))
+
+  leaves_from : (more : ℕ) (text : List ℕ) (at : ℕ) (s : S) → at + more ≡ length text → run step (Some start) (take at text) ≡ Some s → option_and_then final (run step (Some start) text) ≡ None
+      → (place : ℕ) × LeavesAt Means text place
+  leaves_from zero text at s all read none =
+      let whole = run_all step start text at s (omega (arith, all)) read in
+      (length text, leaves_early step start final Means reads text s whole (rw whole at none))
+  leaves_from (suc more) text at s all read none =
+      by_option (step s (get_or text at 0))
+      (λ e. (at, leaves_within step start final Means reads text at s (omega (arith, all)) read e))
+      (λ t e. leaves_from more text (at + 1) t (omega (arith, all)) (run_more step start text at s t (omega (arith, all)) read e) none)
+
+  -- a text that it does not read leaves the grammar somewhere
+  pub leaves_somewhere : (text : List ℕ) → option_and_then final (run step (Some start) text) ≡ None → (place : ℕ) × LeavesAt Means text place
+  leaves_somewhere text none = leaves_from (length text) text 0 start (omega arith) (ap (λ (t : List ℕ). run step (Some start) t) (take_none text)) none

@@ -3,15 +3,15 @@ use Rattle.std.proofs.Common.{◌≡◌, ℕ, ◌<◌, List, ◌++◌, drop, get
 use Rattle.cm_net.specs.declared.address.Address.{Address}
 use Rattle.cm_net.specs.declared.address.Address.TheVariants.{V4, V6}
 use Rattle.cm_net.specs.Addresses.{IsFour, IsSix, IsAddress}
-use Rattle.cm_net.specs.FourReader.{Four, step4, final4}
-use Rattle.cm_net.specs.SixReader.{Six, step6, final6}
+use Rattle.cm_net.specs.FourReader.{Four, start4, step4, final4}
+use Rattle.cm_net.specs.SixReader.{Six, start6, step6, final6}
 use Rattle.cm_net.specs.Free.{IsFree}
 use Rattle.cm_net.specs.Written.{Written, subnet, prefix, site, range, Apart, IsBits, IsSite, IsBody, word_of, IsWritten}
 use Rattle.cm_net.proofs.BitTexts.{alone, bits_read}
 use Rattle.cm_net.proofs.FreeTexts.{free_no, free_first, run_free}
 use Rattle.cm_net.proofs.Machines.{one_reading}
-use Rattle.cm_net.proofs.FourTexts.{start4, reads4}
-use Rattle.cm_net.proofs.SixTexts.{start6, reads6, complete6}
+use Rattle.cm_net.proofs.FourTexts.{reads4}
+use Rattle.cm_net.proofs.SixTexts.{reads6, complete6}
 use Rattle.cm_net.proofs.Words.{four_free_slash, six_free_slash, address_free}
 
 one_four : (text : List ℕ) (m n : ℕ) → IsFour text m → IsFour text n → m ≡ n

@@ -222,7 +222,7 @@ pub prefix_hosts : (net bits k : ℕ) → k ≡ bits → false ≡ eqb (net % 2 
 prefix_hosts net bits k q is = let no : eqb (net % 2 ^ (128 - bits)) 0 ≡ false = sym (rw q at is) in rw no refl
 
 -- a range is answered as its ends say
-from_ends : (text : List ℕ) (from to : Address) (result : Result Boundary NetFault) → range_of from to ≡ result → IsWritten text (range from to) → Answers text result
+pub from_ends : (text : List ℕ) (from to : Address) (result : Result Boundary NetFault) → range_of from to ≡ result → IsWritten text (range from to) → Answers text result
 from_ends text (V4 from) (V4 to) result is written = by_order (ltb to from) refl
   where
     by_order : (less : Bool) → ltb to from ≡ less → Answers text result

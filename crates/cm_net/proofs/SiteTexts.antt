@@ -1,8 +1,8 @@
 -- Where a text leaves the grammar of names.
-use Rattle.std.proofs.Common.{◌≡◌, ℕ, ◌+◌, ◌<◌, ◌≤◌, Bool, true, false, cond, leb, ◌&&◌, List, [], ◌∷◌, ◌++◌, length, map, take, get_or, Some, None, refl, sym, ◌∙◌, subst, arith, length-append, length-take-le, take_all}
+use Rattle.std.proofs.Common.{◌≡◌, ℕ, ◌+◌, ◌<◌, ◌≤◌, Bool, true, false, cond, leb, ◌&&◌, List, [], ◌∷◌, ◌++◌, length, map, take, get_or, Some, None, refl, sym, ◌∙◌, subst, arith, length-append, length-take-le, take_all, zero, suc, inl, inr}
 use Rattle.std.specs.List.{list_all}
 use Rattle.std.proofs.lemmas.List.{take_more, append-nil, map-append, length-map}
-use Rattle.std.proofs.lemmas.Bool.{and_parts, le-leb, lt-leb, leb-true, ne_eqb}
+use Rattle.std.proofs.lemmas.Bool.{cases_lt, and_parts, le-leb, lt-leb, leb-true, ne_eqb}
 use Rattle.cm_base.specs.Names.{name_of, fold_byte, is_upper, is_name_byte, is_folded_name}
 use Rattle.cm_net.specs.Texts.{IsFront, LeavesAt}
 use Rattle.cm_net.specs.Written.{IsSite}
@@ -92,6 +92,26 @@ leaves_nothing text at none end within few all =
       longest = λ below front. absurd (omega (arith, below));
       none = λ name is. no_name text name none is;
     }
+
+name_leaves_from : (more : ℕ) (text : List ℕ) (at : ℕ) → name_of text ≡ None → at + more ≡ length text → at ≤ 63 → AreNameBytes (take at text) → (place : ℕ) × LeavesAt IsSite text place
+name_leaves_from zero text at none all few bytes = (length text, leaves_nothing text at none (omega (arith, all)) (omega (arith, all)) few bytes)
+name_leaves_from (suc more) text at none all few bytes =
+    elim (cases_lt at 63) [
+      | inl small ↦ by_byte (is_name_byte (fold_byte (get_or text at 0))) refl (λ e. name_leaves_from more text (at + 1) none (omega (arith, all)) (omega (arith, small)) (bytes_more text at (omega (arith, all)) bytes e))
+      | inr long ↦ (at, leaves_long text at none (omega (arith, all)) (omega (arith, few, long)) bytes)
+    ]
+  where
+    by_byte : (good : Bool) → is_name_byte (fold_byte (get_or text at 0)) ≡ good → (is_name_byte (fold_byte (get_or text at 0)) ≡ true → (place : ℕ) × LeavesAt IsSite text place) → (place : ℕ) × LeavesAt IsSite text place
+    by_byte true e next = next e
+    by_byte false e next = (at, leaves_at_byte text at none (omega (arith, all)) few bytes e)
+
+-- a text that is no name leaves their grammar somewhere
+pub name_leaves : (text : List ℕ) → name_of text ≡ None → (place : ℕ) × LeavesAt IsSite text place
+name_leaves text none = name_leaves_from (length text) text 0 none (omega arith) (omega arith) (no_bytes text)
+  where
+    no_bytes : (text : List ℕ) → AreNameBytes (take 0 text)
+    no_bytes [] = refl
+    no_bytes (b ∷ text) = refl
 
 -- ---- a name reads back
 

@@ -4,15 +4,13 @@ use Rattle.std.specs.Option.{option_and_then}
 use Rattle.std.proofs.lemmas.List.{append-nil}
 use Rattle.std.proofs.lemmas.Bool.{cases_lt, lt-ltb, ltb-true, eqb-true}
 use Rattle.cm_net.specs.Addresses.{hex_of, hex_from, IsGroup, AreGroups, HasGap, IsSix}
-use Rattle.cm_net.specs.SixReader.{Six, begun, digit_at, colon_at, step6, final_at, final6}
+use Rattle.cm_net.specs.SixReader.{Six, start6, begun, digit_at, colon_at, step6, final_at, final6}
 use Rattle.cm_net.specs.declared.six_reader.Place.{Place}
 use Rattle.cm_net.specs.declared.six_reader.Place.TheVariants.{Start, Colon, Group, Next, Gap, LastGroup, LastNext}
 use Rattle.cm_net.specs.Texts.{IsFront}
 use Rattle.cm_net.proofs.JoinedTexts.{Whole, join_more, whole_again}
-use Rattle.cm_net.proofs.Machines.{run, run-append, kept, Reads}
-
-abbrev pub start6 : Six
-start6 = record { place = Start; count = 0; value = 0; last_count = 0; last_value = 0; digits = 0; number = 0 }
+use Rattle.cm_net.specs.Machines.{run}
+use Rattle.cm_net.proofs.Machines.{run-append, kept, Reads}
 
 abbrev pub six : Place → ℕ → ℕ → ℕ → ℕ → ℕ → ℕ → Six
 six place count value last_count last_value digits number =

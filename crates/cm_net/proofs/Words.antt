@@ -6,12 +6,12 @@ use Rattle.cm_net.specs.declared.address.Address.TheVariants.{V4, V6}
 use Rattle.cm_net.specs.Addresses.{IsFour, IsSix, IsAddress}
 use Rattle.cm_net.specs.Free.{IsFree}
 use Rattle.cm_net.specs.Texts.{IsFront, LeavesAt}
-use Rattle.cm_net.specs.FourReader.{Four, step4}
-use Rattle.cm_net.specs.SixReader.{Six, step6}
+use Rattle.cm_net.specs.FourReader.{Four, start4, step4}
+use Rattle.cm_net.specs.SixReader.{Six, start6, step6}
 use Rattle.cm_net.specs.Written.{Written, subnet, prefix, site, range, Apart, IsBits, IsSite, IsBody, word_of, IsWritten, HasWrongWord, IsBadPlace}
 use Rattle.cm_net.proofs.FreeTexts.{run_free}
-use Rattle.cm_net.proofs.FourTexts.{start4, complete4}
-use Rattle.cm_net.proofs.SixTexts.{start6, complete6}
+use Rattle.cm_net.proofs.FourTexts.{complete4}
+use Rattle.cm_net.proofs.SixTexts.{complete6}
 
 -- ---- addresses have no separator
 

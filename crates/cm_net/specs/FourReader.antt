@@ -13,6 +13,10 @@ pub record Four : Type 0 where
 abbrev pub four_of : FourReader → Four
 four_of reader = record { count = length reader.parts.items; value = number4 reader.parts.items; part = reader.part }
 
+-- nothing was read
+abbrev pub start4 : Four
+start4 = record { count = 0; value = 0; part = None }
+
 -- a part with a further digit, where there is such a part
 abbrev pub longer_part : Option ℕ → ℕ → Option ℕ
 longer_part None d = Some d

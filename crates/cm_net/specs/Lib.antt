@@ -5,7 +5,10 @@ pub mod FourReader
 pub mod Free
 pub mod Groups
 pub mod Indexed
+pub mod Machines
+pub mod Meanings
 pub mod Numbers
+pub mod Readings
 pub mod Sites
 pub mod SixReader
 pub mod Spans

@@ -28,6 +28,10 @@ six_of reader = record {
   number = reader.number;
 }
 
+-- nothing was read
+abbrev pub start6 : Six
+start6 = record { place = Start; count = 0; value = 0; last_count = 0; last_value = 0; digits = 0; number = 0 }
+
 -- a group is begun
 abbrev pub begun : Six → Place → ℕ → Six
 begun s place d = record s { place = place; digits = 1; number = d }

@@ -29,7 +29,7 @@ pub use address::Address;
 pub use boundary::Boundary;
 pub use fault::NetFault;
 pub use index::Index;
-pub use meaning::one_meaning;
+pub use meaning::{each_text_is_read, one_meaning};
 pub use membership::inside;
 pub use site_name::SiteName;
 pub use steps::Steps;

@@ -1,8 +1,8 @@
 use Rattle.std.proofs.Common.{sym}
 use Rattle.cm_net.specs.Addresses.{IsFour}
-use Rattle.cm_net.specs.FourReader.{step4, final4}
+use Rattle.cm_net.specs.FourReader.{start4, step4, final4}
 use Rattle.cm_net.proofs.Machines.{leaves_within, leaves_early, run_more, run_all}
-use Rattle.cm_net.proofs.FourTexts.{start4, reads4}
+use Rattle.cm_net.proofs.FourTexts.{reads4}
 use Rattle.cm_net.proofs.address_text.four_of.Goals as goal
 
 pub loop-at-preserved : goal.loop-at-preserved

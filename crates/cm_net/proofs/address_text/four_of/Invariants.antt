@@ -1,7 +1,6 @@
 use Rattle.std.proofs.Common.{◌≡◌, Some, take}
-use Rattle.cm_net.specs.FourReader.{four_of, step4}
-use Rattle.cm_net.proofs.Machines.{run}
-use Rattle.cm_net.proofs.FourTexts.{start4}
+use Rattle.cm_net.specs.FourReader.{start4, four_of, step4}
+use Rattle.cm_net.specs.Machines.{run}
 use Rattle.cm_net.proofs.address_text.four_of.Given as goal
 
 abbrev pub invariant-loop-at : goal.invariant-loop-at

@@ -1,8 +1,8 @@
 use Rattle.std.proofs.Common.{sym}
 use Rattle.cm_net.specs.Addresses.{IsSix}
-use Rattle.cm_net.specs.SixReader.{step6, final6}
+use Rattle.cm_net.specs.SixReader.{start6, step6, final6}
 use Rattle.cm_net.proofs.Machines.{leaves_within, leaves_early, run_more, run_all}
-use Rattle.cm_net.proofs.SixTexts.{start6, reads6}
+use Rattle.cm_net.proofs.SixTexts.{reads6}
 use Rattle.cm_net.proofs.address_text.six_of.Goals as goal
 
 pub loop-at-preserved : goal.loop-at-preserved

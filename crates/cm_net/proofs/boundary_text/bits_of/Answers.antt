@@ -1,7 +1,6 @@
 use Rattle.std.proofs.Common.{arith, sym}
-use Rattle.cm_net.specs.FourReader.{step4}
+use Rattle.cm_net.specs.FourReader.{start4, step4}
 use Rattle.cm_net.proofs.Machines.{run_more, run_all}
-use Rattle.cm_net.proofs.FourTexts.{start4}
 use Rattle.cm_net.proofs.BitTexts.{bits_stuck, bits_lone, bits_none, bits_many}
 use Rattle.cm_net.proofs.boundary_text.bits_of.Goals as goal
 
