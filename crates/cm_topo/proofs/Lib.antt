@@ -1,6 +1,6 @@
 pub mod Given
-pub mod OneReading
 pub mod Referring
 pub mod Refused
+pub mod RightReading
 pub mod RowSteps
 pub mod Steps

@@ -1,36 +1,20 @@
 -- How the texts of addresses and boundaries are read.
-use Rattle.std.specs.Prelude.{◌≡◌, ℕ, List, Option, Some, None, Result, Ok, Err}
+use Rattle.std.specs.Prelude.{ℕ, List, Option, Result}
 use Rattle.cm_net.specs.declared.address.Address.{Address}
 use Rattle.cm_net.specs.declared.boundary.Boundary.{Boundary}
-use Rattle.cm_net.specs.declared.fault.NetFault.{NetFault}
-use Rattle.cm_net.specs.declared.fault.NetFault.TheVariants.{BadAddress, BadLength, RangeBackwards, HostBitsSet, MixedFamilies}
-use Rattle.cm_net.specs.Addresses.{IsAddress}
-use Rattle.cm_net.specs.Written.{Written, IsWritten, IsFaultOf, judged}
+use Rattle.cm_net.specs.Meanings.{IsAddressOf, IsBoundaryOf}
+use Rattle.cm_net.specs.Readings.{address_in, boundary_in}
 
 -- a reading gives for each text its address, and its boundary or the number of the rule that it breaks
 pub record Net : Type 0 where
   pub address : List ℕ → Option Address
   pub boundary : List ℕ → Result Boundary ℕ
 
--- the rule that a fault breaks
-abbrev pub rule_of : NetFault → ℕ
-rule_of (BadAddress place) = 1
-rule_of BadLength = 2
-rule_of RangeBackwards = 3
-rule_of HostBitsSet = 4
-rule_of MixedFamilies = 5
-
--- the address that a text spells, if it spells one
-abbrev pub IsAddressOf : List ℕ → Option Address → Type 0
-IsAddressOf text (Some address) = IsAddress text address
-IsAddressOf text None = (address : Address) → IsAddress text address → ⊥
-
--- the boundary that a text spells, or the rule that it breaks first
-abbrev pub IsBoundaryOf : List ℕ → Result Boundary ℕ → Type 0
-IsBoundaryOf text (Ok boundary) = (what : Written) × IsWritten text what × (judged what ≡ Ok boundary)
-IsBoundaryOf text (Err rule) = (fault : NetFault) × IsFaultOf text fault × (rule ≡ rule_of fault)
-
 -- it reads each text by the grammar of addresses and boundaries
 pub record IsRight (net : Net) : Type 0 where
   pub address : (text : List ℕ) → IsAddressOf text (net.address text)
   pub boundary : (text : List ℕ) → IsBoundaryOf text (net.boundary text)
+
+-- the reading: cm_net's law `each_text_is_read` says that it is right, and that each right one gives the same
+abbrev pub reading : Net
+reading = record { address = address_in; boundary = boundary_in }

@@ -16,7 +16,7 @@ use Rattle.cm_topo.specs.declared.topology.Topology.{Topology}
 use Rattle.cm_topo.specs.declared.topology_text.TopologyText.{TopologyText}
 use Rattle.cm_topo.specs.declared.trouble.Trouble.TheVariants.{Broken}
 use Rattle.cm_topo.specs.FirstPass.{first_pass}
-use Rattle.cm_topo.specs.Net.{Net, IsRight}
+use Rattle.cm_topo.specs.Net.{Net, reading}
 use Rattle.cm_topo.specs.Rows.{text_of}
 use Rattle.cm_topo.specs.Rules.{no_such_boundary, no_such_group, same_name, same_relation, self_relation, too_long_fallback, too_many}
 use Rattle.cm_topo.specs.SecondPass.{second_pass}
@@ -77,11 +77,11 @@ Gives (Ok topology) come = come ≡ Ok topology
 Gives (Err stop.Memory) come = ⊤
 Gives (Err (stop.Fault placed)) come = come ≡ Err (fault_of placed)
 
--- the bytes are a document, and this is its outcome, addresses and boundaries read by their grammar
+-- the bytes are a document, and this is its outcome
 pub record Comes (bytes : List ℕ) (answer : Result Topology TopoFault) : Type 0 where
   pub document : Members
   pub is_document : IsDocument bytes document
-  pub comes : (net : Net) → IsRight net → outcome net document ≡ answer
+  pub comes : outcome reading document ≡ answer
 
 -- what an answer says of the bytes
 abbrev pub Says : List ℕ → Result Topology TopoFault → Type 0

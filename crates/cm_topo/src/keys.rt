@@ -1,10 +1,11 @@
 //! What the value at a key says.
 ghost use Rattle.std.specs.Prelude.{◌≡◌, ◌≤◌, IfOk, IfSome, Some};
 ghost use Rattle.cm_net.specs.Boundaries.{IsSound};
+ghost use Rattle.cm_net.specs.Meanings.{IsAddressOf, IsBoundaryOf, rule_of};
 ghost use Rattle.toml.specs.Data.{get_member};
 ghost use Rattle.toml.specs.View.{table_view, view};
 ghost use Rattle.cm_topo.specs.Keys.{address_said, boundary_said, code_said, flag_said, is_reserved, label_said, minutes_said, name_said, number_said, point_name_said, site_said, within};
-ghost use Rattle.cm_topo.specs.Net.{Net, IsAddressOf, IsBoundaryOf, IsRight, rule_of};
+ghost use Rattle.cm_topo.specs.Net.{Net, IsRight};
 
 use crate::document::value_at;
 use crate::rules::{
@@ -14,7 +15,7 @@ use crate::rules::{
 use crate::trouble::Trouble;
 use cm_base::{Label, ServerName};
 use cm_groups::{Fallback, SiteCode};
-use cm_net::{Address, Boundary, NetFault, SiteName, one_meaning};
+use cm_net::{Address, Boundary, NetFault, SiteName, each_text_is_read};
 use toml::{Table, Value};
 
 /// The label that a value is.
@@ -131,7 +132,7 @@ fn address_read(text: &[u8]) -> Option<Address>
 fn address_of(text: &[u8]) -> Option<Address>
     ensures { (net : Net) → IsRight net → net.address text.now ≡ result }
 {
-    one_meaning();
+    each_text_is_read();
     address_read(text)
 }
 
@@ -187,7 +188,7 @@ fn boundary_of(text: &[u8]) -> Result<Boundary, u8>
     ensures read { (net : Net) → IsRight net → net.boundary text.now ≡ result }
     ensures sound { IfOk result (λ boundary. IsSound boundary) }
 {
-    one_meaning();
+    each_text_is_read();
     boundary_read(text)
 }
 

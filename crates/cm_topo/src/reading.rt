@@ -5,7 +5,7 @@ ghost use Rattle.toml.specs.Data.{get_member};
 ghost use Rattle.toml.specs.View.{table_view};
 ghost use Rattle.cm_topo.specs.FirstPass.{AreFewGroups, AreFewServers};
 ghost use Rattle.cm_topo.specs.Keys.{code_said, items_of};
-ghost use Rattle.cm_topo.specs.Net.{Net, IsRight};
+ghost use Rattle.cm_topo.specs.Net.{Net, IsRight, reading};
 ghost use Rattle.cm_topo.specs.Outcomes.{Gives, Says, group_faults, later_faults, outcome, part_of, refusal_of, topology_of, unless_faulty};
 ghost use Rattle.cm_topo.specs.Rows.{boundary_row, group_row, peer_row, point_group_row, point_row, rows_in, text_of};
 ghost use Rattle.cm_topo.specs.SecondPass.{IsFew};
@@ -28,7 +28,7 @@ use crate::trouble::Trouble;
 use crate::{TopoFault, Topology};
 use cm_base::{Label, List, Memory};
 use cm_groups::{GroupText, Groups, GroupsFault, SiteCode};
-use cm_net::Boundary;
+use cm_net::{Boundary, each_text_is_read};
 use cm_peer::Peer;
 use cm_points::{Point, PointGroup};
 use std::alloc::Global;
@@ -207,8 +207,9 @@ fn first_of(alloc: Global, table: &Table, code: SiteCode) -> Result<Topology, St
 
 /// The topology of a document.
 fn topology_in(alloc: Global, table: &Table) -> Result<Topology, Stop>
-    ensures { (net : Net) → IsRight net → Gives result (outcome net (table_view table.now)) }
+    ensures { Gives result (outcome reading (table_view table.now)) }
 {
+    each_text_is_read();
     match code_at(table, "code") {
         Ok(code) => first_of(alloc, table, code),
         Err(trouble) => Err(Stop::Fault(trouble.at(0, 0))),

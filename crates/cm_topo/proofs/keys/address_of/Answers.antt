@@ -1,5 +1,7 @@
-use Rattle.cm_topo.proofs.OneReading.{one_address_of}
+use Rattle.std.proofs.Common.{sym, ◌∙◌}
 use Rattle.cm_topo.proofs.keys.address_of.Goals as goal
 
 pub returns : goal.returns
-returns c = λ net right. one_address_of c.one_meaning.ensures.address c.args.text.now _ _ (right.address c.args.text.now) c.address_read.ensures
+returns c = λ net right.
+    (c.each_text_is_read.ensures.address c.args.text.now _).0 (right.address c.args.text.now)
+    ∙ sym ((c.each_text_is_read.ensures.address c.args.text.now _).0 c.address_read.ensures)
