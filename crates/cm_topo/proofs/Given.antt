@@ -1,6 +1,5 @@
 -- The outcome behind a part of the faults.
-use Rattle.std.proofs.Common.{◌≡◌, ℕ, refl, List, [], ◌∷◌, ◌++◌, Option, Some, None, Result, Ok, Err}
-use Rattle.cm_topo.specs.declared.fault.TopoFault.{TopoFault}
+use Rattle.std.proofs.Common.{◌≡◌, ℕ, List, [], ◌∷◌, ◌++◌, Some, None, Result, Err}
 use Rattle.cm_topo.specs.declared.placed.Placed.{Placed}
 use Rattle.cm_topo.specs.declared.trouble.Trouble.{Trouble}
 use Rattle.cm_topo.specs.declared.trouble.Trouble.TheVariants.{Shape, Broken}

@@ -1,6 +1,7 @@
+pub mod Accepted
 pub mod Given
 pub mod Referring
-pub mod Refused
+pub mod Modest
 pub mod RightReading
 pub mod RowSteps
 pub mod Steps

@@ -1,5 +1,5 @@
 -- The first pass: what is wrong with each entry by itself, through the parts in order.
-use Rattle.std.specs.Prelude.{ℕ, ◌≤◌, ◌++◌, List, [], ◌∷◌, length, map, Result, Ok, Err, codes}
+use Rattle.std.specs.Prelude.{◌≡◌, ℕ, ◌≤◌, ◌++◌, List, [], ◌∷◌, length, map, None, Result, Ok, Err, codes}
 use Rattle.toml.specs.Data.{Data, Members, get_member}
 use Rattle.cm_topo.specs.declared.placed.Placed.{Placed}
 use Rattle.cm_topo.specs.declared.part.Part.{Part}
@@ -8,7 +8,7 @@ use Rattle.cm_topo.specs.declared.trouble.Trouble.{Trouble}
 use Rattle.cm_topo.specs.Keys.{code_said, items_of, items_said}
 use Rattle.cm_topo.specs.Net.{Net}
 use Rattle.cm_topo.specs.Tables.{data_troubles, default_troubles, group_relations_troubles}
-use Rattle.cm_topo.specs.Troubles.{each_entry, fault_at, limit_troubles, wrong}
+use Rattle.cm_topo.specs.Troubles.{each_entry, fault_at, first, limit_troubles, wrong}
 
 -- the number of a part, and how many entries it may have
 abbrev pub number_of : Part → ℕ
@@ -68,6 +68,10 @@ servers_pass net d =
 -- all parts in order
 abbrev pub first_pass : Net → Members → List Placed
 first_pass net d = groups_pass net d ++ servers_pass net d
+
+-- nothing is wrong with the relations
+abbrev pub AreRelationsRight : Members → Type 0
+AreRelationsRight d = first (relations_faults (items_of (get_member (codes "group") d))) ≡ None
 
 -- the parts have no more entries than they may
 pub record AreFewGroups (d : Members) : Type 0 where

@@ -1,9 +1,5 @@
 -- What a text says: a topology, or its first fault.
-use Rattle.std.specs.Prelude.{◌≡◌, ℕ, ◌==◌, ◌++◌, ⊤, IsUtf8, List, [], ◌∷◌, Option, Some, None, Result, Ok, Err, if◌then◌else◌}
-use Rattle.std.specs.Option.{option_and_then, option_to_list}
-use Rattle.cm_groups.specs.declared.fault.GroupsFault.{GroupsFault}
-use Rattle.cm_groups.specs.declared.fault.GroupsFault.TheVariants as groups_fault
-use Rattle.cm_groups.specs.Faults.{first_fault}
+use Rattle.std.specs.Prelude.{◌≡◌, ℕ, ◌++◌, ⊤, IsUtf8, List, [], ◌∷◌, Some, Result, Ok, Err}
 use Rattle.cm_groups.specs.Groups.{groups_of}
 use Rattle.toml.specs.Data.{Members}
 use Rattle.toml.specs.Parse.{parse_document}
@@ -14,43 +10,19 @@ use Rattle.cm_topo.specs.declared.stop.Stop.{Stop}
 use Rattle.cm_topo.specs.declared.stop.Stop.TheVariants as stop
 use Rattle.cm_topo.specs.declared.topology.Topology.{Topology}
 use Rattle.cm_topo.specs.declared.topology_text.TopologyText.{TopologyText}
-use Rattle.cm_topo.specs.declared.trouble.Trouble.TheVariants.{Broken}
 use Rattle.cm_topo.specs.FirstPass.{first_pass}
 use Rattle.cm_topo.specs.Net.{Net, reading}
 use Rattle.cm_topo.specs.Rows.{text_of}
-use Rattle.cm_topo.specs.Rules.{no_such_boundary, no_such_group, same_name, same_relation, self_relation, too_long_fallback, too_many}
 use Rattle.cm_topo.specs.SecondPass.{second_pass}
-use Rattle.cm_topo.specs.Troubles.{fault_at, fault_of}
+use Rattle.cm_topo.specs.Troubles.{fault_of}
 
 -- the document that a text is, by TOML
 abbrev pub IsDocument : List ℕ → Members → Type 0
 IsDocument bytes d = IsUtf8 bytes × (parse_document bytes ≡ Some d)
 
--- the part of the boundaries or of the groups, by its number among the texts of groups
-abbrev pub part_of : ℕ → ℕ
-part_of part = if part == 0 then 1 else 2
-
--- what the groups refuse, in the numbers of the topology
-abbrev pub refusal_of : GroupsFault → Option Placed
-refusal_of (groups_fault.SameName part entry) = Some (fault_at (part_of part) entry (Broken same_name))
-refusal_of (groups_fault.NoSuchGroup part entry) = Some (fault_at 3 entry (Broken no_such_group))
-refusal_of (groups_fault.NoSuchBoundary part entry) = Some (fault_at 2 entry (Broken no_such_boundary))
-refusal_of (groups_fault.SelfRelation part entry) = Some (fault_at 3 entry (Broken self_relation))
-refusal_of (groups_fault.SameRelation part entry) = Some (fault_at 3 entry (Broken same_relation))
-refusal_of (groups_fault.TooLongFallback part entry) = Some (fault_at 3 entry (Broken too_long_fallback))
-refusal_of (groups_fault.TooMany part entry) = Some (fault_at (part_of part) entry (Broken too_many))
-refusal_of groups_fault.Memory = None
-
-abbrev pub group_faults : TopologyText → List Placed
-group_faults text = option_to_list (option_and_then refusal_of (first_fault text.code text.boundaries text.groups))
-
--- behind the first pass stands the second one, and behind both what the groups refuse
-abbrev pub later_faults : TopologyText → List Placed
-later_faults text = second_pass text ++ group_faults text
-
 -- all that is wrong with a document, in order
 abbrev pub faults : Net → Members → List Placed
-faults net d = first_pass net d ++ later_faults (text_of net d)
+faults net d = first_pass net d ++ second_pass (text_of net d)
 
 -- the topology of rows without a fault
 abbrev pub topology_of : TopologyText → Topology

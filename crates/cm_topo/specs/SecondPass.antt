@@ -1,9 +1,10 @@
 -- The second pass: the names that refer to others, through the parts in order.
-use Rattle.std.specs.Prelude.{ℕ, ◌+◌, ◌≤◌, ◌++◌, Bool, List, length, map, take}
+use Rattle.std.specs.Prelude.{◌≡◌, ℕ, ◌+◌, ◌≤◌, ◌++◌, Bool, false, List, length, map, take}
 use Rattle.std.specs.List.{flat_map, list_any}
 use Rattle.std.specs.Str.{bytes_eq}
 use Rattle.cm_groups.specs.declared.fallback.Fallback.{Fallback}
 use Rattle.cm_groups.specs.declared.group_text.GroupText.{GroupText}
+use Rattle.cm_groups.specs.Faults.{has_too_long}
 use Rattle.cm_groups.specs.Names.{is_among, is_before}
 use Rattle.cm_groups.specs.Texts.{group_names, names_of_rows}
 use Rattle.cm_net.specs.declared.boundary.Boundary.{Boundary}
@@ -99,6 +100,11 @@ abbrev pub second_pass : TopologyText → List Placed
 second_pass text =
     groups_refer (names_of_rows text.boundaries) (group_names text.code text.groups) (point_names text.points) text
     ++ servers_refer (point_names text.points) (point_group_names text.point_groups) (peer_names text.peers) text
+
+-- a group has at most 64 relations, none of more than 10,000 minutes
+pub record IsModest (text : GroupText) : Type 0 where
+  pub relations : length text.relations ≤ 64
+  pub minutes : has_too_long text ≡ false
 
 -- no part has more entries than it may
 pub record IsFew (text : TopologyText) : Type 0 where

@@ -5,7 +5,7 @@ use Rattle.toml.specs.Data.{Data, Members, as_table, get_member}
 use Rattle.cm_topo.specs.declared.part.Part.{Part}
 use Rattle.cm_topo.specs.declared.part.Part.TheVariants.{Boundaries, Groups, Points, PointGroups, Peers}
 use Rattle.cm_topo.specs.declared.trouble.Trouble.{Trouble}
-use Rattle.cm_topo.specs.declared.trouble.Trouble.TheVariants.{Shape, Broken}
+use Rattle.cm_topo.specs.declared.trouble.Trouble.TheVariants.{Shape}
 use Rattle.cm_topo.specs.Keys.{address_said, boundary_said, flag_said, items_said, label_said, labels_troubles, list_troubles, minutes_said, name_said, names_troubles, number_said, point_name_said, site_said}
 use Rattle.cm_topo.specs.Net.{Net}
 use Rattle.cm_topo.specs.Rules.{most_relations, no_pull_source}

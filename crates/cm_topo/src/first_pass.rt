@@ -2,7 +2,7 @@
 ghost use Rattle.std.specs.Prelude.{◌≡◌, ◌<◌, ◌≤◌, IfNone, Ok, codes, length, map};
 ghost use Rattle.toml.specs.Data.{get_member};
 ghost use Rattle.toml.specs.View.{table_view, view};
-ghost use Rattle.cm_topo.specs.FirstPass.{AreFewGroups, AreFewServers, entries_faults, entry_troubles, first_pass, groups_pass, key_of, limit_of, part_faults, relations_faults, servers_pass};
+ghost use Rattle.cm_topo.specs.FirstPass.{AreFewGroups, AreFewServers, AreRelationsRight, entries_faults, entry_troubles, first_pass, groups_pass, key_of, limit_of, part_faults, relations_faults, servers_pass};
 ghost use Rattle.cm_topo.specs.Keys.{code_said, items_of};
 ghost use Rattle.cm_topo.specs.Net.{Net, IsRight};
 ghost use Rattle.cm_topo.specs.Tables.{default_troubles};
@@ -91,6 +91,7 @@ fn default_fault(table: &Table) -> Option<Placed>
 fn groups_fault(table: &Table) -> Option<Placed>
     ensures first { (net : Net) → IsRight net → first (groups_pass net (table_view table.now)) ≡ result }
     ensures few { IfNone result (AreFewGroups (table_view table.now)) }
+    ensures relations { IfNone result (AreRelationsRight (table_view table.now)) }
 {
     if let Some(fault) = code_fault(table) {
         return Some(fault);
@@ -125,6 +126,7 @@ fn servers_fault(table: &Table) -> Option<Placed>
 pub(crate) fn first_pass_fault(table: &Table) -> Option<Placed>
     ensures first { (net : Net) → IsRight net → first (first_pass net (table_view table.now)) ≡ result }
     ensures groups { IfNone result (AreFewGroups (table_view table.now)) }
+    ensures relations { IfNone result (AreRelationsRight (table_view table.now)) }
     ensures servers { IfNone result (AreFewServers (table_view table.now)) }
 {
     if let Some(fault) = groups_fault(table) {

@@ -1,30 +1,25 @@
 //! Reading the text of a topology.
-ghost use Rattle.std.specs.Prelude.{◌≡◌, ◌≤◌, All, IfOk, Ok, codes, length};
+ghost use Rattle.std.specs.Prelude.{◌≡◌, ◌≤◌, All, IfOk, None, Ok, codes, length};
+ghost use Rattle.cm_groups.specs.Faults.{first_fault};
 ghost use Rattle.cm_net.specs.Boundaries.{IsSound};
 ghost use Rattle.toml.specs.Data.{get_member};
 ghost use Rattle.toml.specs.View.{table_view};
-ghost use Rattle.cm_topo.specs.FirstPass.{AreFewGroups, AreFewServers};
+ghost use Rattle.cm_topo.specs.FirstPass.{AreFewGroups, AreFewServers, AreRelationsRight};
 ghost use Rattle.cm_topo.specs.Keys.{code_said, items_of};
 ghost use Rattle.cm_topo.specs.Net.{Net, IsRight, reading};
-ghost use Rattle.cm_topo.specs.Outcomes.{Gives, Says, group_faults, later_faults, outcome, part_of, refusal_of, topology_of, unless_faulty};
+ghost use Rattle.cm_topo.specs.Outcomes.{Gives, Says, outcome, topology_of, unless_faulty};
 ghost use Rattle.cm_topo.specs.Rows.{boundary_row, group_row, peer_row, point_group_row, point_row, rows_in, text_of};
-ghost use Rattle.cm_topo.specs.SecondPass.{IsFew};
+ghost use Rattle.cm_topo.specs.SecondPass.{IsFew, IsModest, second_pass};
 
 use crate::document::items_or_none;
 use crate::first_pass::first_pass_fault;
 use crate::keys::code_at;
-use crate::placed::Placed;
 use crate::rows::{
     boundary_rows, default_points, group_rows, peer_rows, point_group_rows, point_rows,
-};
-use crate::rules::{
-    NO_SUCH_BOUNDARY, NO_SUCH_GROUP, SAME_NAME, SAME_RELATION, SELF_RELATION, TOO_LONG_FALLBACK,
-    TOO_MANY,
 };
 use crate::second_pass::second_pass_fault;
 use crate::stop::Stop;
 use crate::topology_text::TopologyText;
-use crate::trouble::Trouble;
 use crate::{TopoFault, Topology};
 use cm_base::{Label, List, Memory};
 use cm_groups::{GroupText, Groups, GroupsFault, SiteCode};
@@ -46,9 +41,11 @@ fn boundaries_of(alloc: Global, table: &Table) -> Result<Vec<(Label, Boundary)>,
 
 /// The groups of a document.
 fn groups_of(alloc: Global, table: &Table) -> Result<Vec<GroupText>, Memory>
-    requires { length (items_of (get_member (codes "group") (table_view table.now))) ≤ 500 }
+    requires few { length (items_of (get_member (codes "group") (table_view table.now))) ≤ 500 }
+    requires relations { AreRelationsRight (table_view table.now) }
     ensures rows { IfOk result (λ rows. rows_in group_row (items_of (get_member (codes "group") (table_view table.now))) ≡ rows.items) }
     ensures few { IfOk result (λ rows. length rows.items ≤ 500) }
+    ensures modest { IfOk result (λ rows. All IsModest rows.items) }
 {
     group_rows(alloc, items_or_none(table, "group"))
 }
@@ -85,8 +82,10 @@ fn text_of(alloc: Global, table: &Table, code: SiteCode) -> Result<TopologyText,
     requires code { code_said (get_member (codes "code") (table_view table.now)) ≡ Ok code }
     requires groups { AreFewGroups (table_view table.now) }
     requires servers { AreFewServers (table_view table.now) }
+    requires relations { AreRelationsRight (table_view table.now) }
     ensures text { (net : Net) → IsRight net → IfOk result (λ text. text_of net (table_view table.now) ≡ text) }
     ensures few { IfOk result (λ text. IsFew text) }
+    ensures modest { IfOk result (λ text. All IsModest text.groups) }
     ensures sound { IfOk result (λ text. All (λ row. IsSound row.1) text.boundaries) }
 {
     let boundaries = boundaries_of(alloc, table)?;
@@ -106,49 +105,21 @@ fn text_of(alloc: Global, table: &Table, code: SiteCode) -> Result<TopologyText,
     })
 }
 
-/// The part of the topology, by its number among the texts of groups.
-fn part_of(part: u8) -> u8
-    ensures { result ≡ part_of part }
-{
-    if part == 0 { 1 } else { 2 }
-}
-
-/// What the groups refuse, in the numbers of the topology. None for want of memory.
-fn refusal_of(fault: GroupsFault) -> Option<Placed>
-    ensures { result ≡ refusal_of fault }
+/// The want of memory, which is all that the groups answer where nothing is wrong.
+fn want_of_memory(fault: GroupsFault) -> Memory
+    requires { fault ≡ GroupsFault.Memory }
 {
     match fault {
-        GroupsFault::SameName { part, entry } => Some(Trouble::Broken(SAME_NAME).at(
-            part_of(part),
-            entry,
-        )),
-        GroupsFault::NoSuchGroup { part: _, entry } => Some(Trouble::Broken(NO_SUCH_GROUP).at(
-            3, entry,
-        )),
-        GroupsFault::NoSuchBoundary { part: _, entry } => Some(Trouble::Broken(NO_SUCH_BOUNDARY).at(
-            2, entry,
-        )),
-        GroupsFault::SelfRelation { part: _, entry } => Some(Trouble::Broken(SELF_RELATION).at(
-            3, entry,
-        )),
-        GroupsFault::SameRelation { part: _, entry } => Some(Trouble::Broken(SAME_RELATION).at(
-            3, entry,
-        )),
-        GroupsFault::TooLongFallback { part: _, entry } => Some(Trouble::Broken(
-            TOO_LONG_FALLBACK,
-        ).at(3, entry)),
-        GroupsFault::TooMany { part, entry } => Some(Trouble::Broken(TOO_MANY).at(
-            part_of(part),
-            entry,
-        )),
-        GroupsFault::Memory => None,
+        GroupsFault::Memory => Memory,
+        _ => unreachable!(),
     }
 }
 
-/// The topology of rows in which both passes found no fault.
-fn topology_of(alloc: Global, text: TopologyText) -> Result<Topology, Stop>
-    requires { All (λ row. IsSound row.1) text.boundaries }
-    ensures { Gives result (unless_faulty (group_faults text) (topology_of text)) }
+/// The topology of rows in which both passes found no fault, so that the groups refuse none.
+fn topology_of(alloc: Global, text: TopologyText) -> Result<Topology, Memory>
+    requires sound { All (λ row. IsSound row.1) text.boundaries }
+    requires accepted { first_fault text.code text.boundaries text.groups ≡ None }
+    ensures { IfOk result (λ topology. topology ≡ topology_of text) }
 {
     let TopologyText {
         code,
@@ -174,23 +145,21 @@ fn topology_of(alloc: Global, text: TopologyText) -> Result<Topology, Stop>
             point_groups,
             peers,
         }),
-        Err(fault) => match refusal_of(fault) {
-            Some(placed) => Err(Stop::Fault(placed)),
-            None => Err(Stop::Memory),
-        },
+        Err(fault) => Err(want_of_memory(fault)),
     }
 }
 
 /// The topology of rows in which the first pass found no fault.
 fn second_of(alloc: Global, text: TopologyText) -> Result<Topology, Stop>
     requires few { IsFew text }
+    requires modest { All IsModest text.groups }
     requires sound { All (λ row. IsSound row.1) text.boundaries }
-    ensures { Gives result (unless_faulty (later_faults text) (topology_of text)) }
+    ensures { Gives result (unless_faulty (second_pass text) (topology_of text)) }
 {
     if let Some(placed) = second_pass_fault(alloc, &text)? {
         return Err(Stop::Fault(placed));
     }
-    topology_of(alloc, text)
+    Ok(topology_of(alloc, text)?)
 }
 
 /// The topology of a document that has this code.

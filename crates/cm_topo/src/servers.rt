@@ -37,7 +37,7 @@ fn places_of(alloc: Global, names: &[ServerName]) -> Result<BTreeMap<ServerName,
 }
 
 impl Servers {
-    /// these names.
+    /// These names.
     pub(crate) fn of(alloc: Global, names: Vec<ServerName>) -> Result<Servers, Memory>
         ensures { IfOk result (λ made. made ≡ names.items) }
     {

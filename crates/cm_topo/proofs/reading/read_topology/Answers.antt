@@ -1,4 +1,4 @@
-use Rattle.std.proofs.Common.{◌≡◌, sym, subst, Err}
+use Rattle.std.proofs.Common.{sym, subst, Err}
 use Rattle.toml.specs.View.{table_view}
 use Rattle.cm_topo.specs.declared.fault.TopoFault.{TopoFault}
 use Rattle.cm_topo.specs.Outcomes.{Says}
