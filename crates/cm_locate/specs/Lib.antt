@@ -4,3 +4,4 @@ pub mod Clients
 pub mod Eligible
 pub mod Names
 pub mod Ranks
+pub mod Renumbered

@@ -14,10 +14,13 @@ mod ranking;
 mod rows;
 #[cfg(test)]
 mod tests;
+#[cfg(test)]
+mod tests_at_limits;
 
 pub use ask::Ask;
 pub use laws::{
-    each_source_stands_once, eligible_sources_have_ranks, kinds_share_no_rank,
-    minutes_take_no_point_away, one_answer,
+    each_source_stands_once, eligible_sources_have_ranks, group_texts_in_any_order,
+    groups_in_any_order, installed_rows_in_any_order, kinds_share_no_rank,
+    minutes_take_no_point_away, one_answer, sources_of_current_groups_stay,
 };
 pub use locating::locate;

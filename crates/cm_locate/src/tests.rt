@@ -98,19 +98,47 @@ fn text(
     })
 }
 
-/// The groups Paris, Floor3 and Lyon, where Paris has these relations, and Lyon these points.
-fn groups(alloc: Global, paris: &[(&str, u16)], lyon: &[&str]) -> Result<Groups, Fail> {
-    let rows = boundaries(alloc)?;
-    let mut texts = Vec::new(alloc);
+fn paris(alloc: Global, relations: &[(&str, u16)]) -> Result<GroupText, Fail> {
     let both = ["paris-lan", "paris-site"];
-    texts.push(text(alloc, "Paris", &both, &["dp1", "dp2"], paris)?)?;
+    text(alloc, "Paris", &both, &["dp1", "dp2"], relations)
+}
+
+fn floor(alloc: Global) -> Result<GroupText, Fail> {
     let mut floor = text(alloc, "Floor3", &["paris-lan"], &["dp3"], &[])?;
     floor.options.prefer_points = true;
-    texts.push(floor)?;
+    Ok(floor)
+}
+
+fn lyon(alloc: Global, points: &[&str]) -> Result<GroupText, Fail> {
     let own = ["lyon-range", "lyon-v6"];
-    texts.push(text(alloc, "Lyon", &own, lyon, &[(DEFAULT, 10)])?)?;
+    text(alloc, "Lyon", &own, points, &[(DEFAULT, 10)])
+}
+
+fn groups_of(alloc: Global, texts: Vec<GroupText>) -> Result<Groups, Fail> {
+    let rows = boundaries(alloc)?;
     let code = SiteCode::read(b"PS1").ok_or("code")?;
     Ok(Groups::build(alloc, code, rows, texts, servers(alloc, &["dp5"])?)?)
+}
+
+/// The groups Paris, Floor3 and Lyon, where Paris has these relations, and Lyon these points.
+fn groups(alloc: Global, leads: &[(&str, u16)], points: &[&str]) -> Result<Groups, Fail> {
+    let mut texts = Vec::new(alloc);
+    texts.push(paris(alloc, leads)?)?;
+    texts.push(floor(alloc)?)?;
+    texts.push(lyon(alloc, points)?)?;
+    groups_of(alloc, texts)
+}
+
+/// The groups Paris and Floor3, which hold the clients at Paris, with these options.
+fn groups_with(alloc: Global, of_paris: Options, of_floor: Options) -> Result<Groups, Fail> {
+    let mut texts = Vec::new(alloc);
+    let mut paris = paris(alloc, &[])?;
+    paris.options = of_paris;
+    texts.push(paris)?;
+    let mut floor = floor(alloc)?;
+    floor.options = of_floor;
+    texts.push(floor)?;
+    groups_of(alloc, texts)
 }
 
 fn site(text: &str) -> Option<SiteName> {
@@ -139,17 +167,17 @@ fn points(alloc: Global) -> Result<Vec<Point>, Fail> {
 
 fn peers(alloc: Global) -> Result<Vec<Peer>, Fail> {
     let rows = [
-        ("pc8", 0x0a01_0708, "Paris"),
-        ("pc9", 0x0a02_000f, "Lyon"),
-        ("pc7", 0x0a01_024d, "Paris"),
+        ("pc8", 0x0a01_0708, "Paris", 10),
+        ("pc9", 0x0a02_000f, "Lyon", 4),
+        ("pc7", 0x0a01_024d, "Paris", 10),
     ];
     let mut peers = Vec::new(alloc);
-    for (name, address, of_site) in rows {
+    for (name, address, of_site, connections) in rows {
         peers.push(Peer {
             name: server(name)?,
             address: Address::V4(address),
             site: site(of_site),
-            connections: 10,
+            connections,
         })?;
     }
     Ok(peers)
@@ -360,4 +388,70 @@ fn each_source_stands_once(rt: HostRuntime) -> Result<(), Fail> {
     question.leave = (false, false);
     let wanted = [AT_PARIS[0], AT_PARIS[2], AT_PARIS[3], AT_PARIS[4]];
     look(&rt, rt.alloc(), &groups, &question, &wanted)
+}
+
+#[test]
+fn groups_may_be_listed_in_any_order(rt: HostRuntime) -> Result<(), Fail> {
+    let mut texts = Vec::new(rt.alloc());
+    texts.push(lyon(rt.alloc(), &["dp4"])?)?;
+    texts.push(floor(rt.alloc())?)?;
+    texts.push(paris(rt.alloc(), &[("Lyon", 30)])?)?;
+    let groups = groups_of(rt.alloc(), texts)?;
+    for (elapsed, count) in [(0, 5), (29, 5), (30, 6), (119, 6), (120, 7)] {
+        let question = asks(PARIS, "Paris", elapsed);
+        look(&rt, rt.alloc(), &groups, &question, &AT_PARIS[..count])?;
+    }
+    Ok(())
+}
+
+/// What a client at Paris is given where Paris and Floor3 have these options.
+fn look_with(
+    rt: &impl Abort,
+    alloc: Global,
+    options: (Options, Options),
+    prefix: u8,
+    wanted: &[Wanted],
+) -> Result<(), Fail>
+    requires { prefix ≤ 32 }
+{
+    let groups = groups_with(alloc, options.0, options.1)?;
+    let mut question = asks(PARIS, "Paris", 0);
+    question.prefix = prefix;
+    look(rt, alloc, &groups, &question, wanted)
+}
+
+const PC7: Wanted = (4, Kind::Peer, "pc7");
+
+const PC8: Wanted = (4, Kind::Peer, "pc8");
+
+const DP1: Wanted = (3, Kind::Point, "dp1");
+
+const DP2: Wanted = (5, Kind::Point, "dp2");
+
+const DP3: Wanted = (7, Kind::Point, "dp3");
+
+#[test]
+fn a_group_may_allow_peers_of_the_subnet_alone(rt: HostRuntime) -> Result<(), Fail> {
+    let wide = Options::default();
+    let mut narrow = wide;
+    narrow.same_subnet_only = true;
+    let mut none = wide;
+    none.peers = false;
+    let near: Wanted = (2, Kind::Peer, "pc7");
+    // pc7 is in both groups and in the client's 24 bits, pc8 in Paris alone and not
+    let all = [near, DP1, PC8, DP2, DP3];
+    for options in [(wide, wide), (wide, narrow), (wide, none)] {
+        look_with(&rt, rt.alloc(), options, 24, &all)?;
+    }
+    let one = [near, DP1, DP2, DP3];
+    for options in [(narrow, wide), (none, narrow), (narrow, none)] {
+        look_with(&rt, rt.alloc(), options, 24, &one)?;
+    }
+    look_with(&rt, rt.alloc(), (none, none), 24, &[DP1, DP2, DP3])?;
+    // neither is in its 26 bits: pc7 may serve where one of its groups asks for no subnet
+    let both = [DP1, PC7, PC8, DP2, DP3];
+    look_with(&rt, rt.alloc(), (wide, narrow), 26, &both)?;
+    let far = [DP1, PC7, DP2, DP3];
+    look_with(&rt, rt.alloc(), (narrow, wide), 26, &far)?;
+    look_with(&rt, rt.alloc(), (narrow, narrow), 26, &[DP1, DP2, DP3])
 }
