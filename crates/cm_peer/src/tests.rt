@@ -77,6 +77,7 @@ fn the_first_cause_is_answered(rt: HostRuntime) -> Result<(), Fail> {
             5,
             Answer::Refused(Cause::NoConnection { limit: 4 }),
         ),
+        (true, 81, 10, 0, Answer::Refused(Cause::LowBattery)),
         (true, 81, 11, 5, Answer::Refused(Cause::LowBattery)),
         (
             false,
@@ -168,6 +169,29 @@ fn a_walk_goes_on_to_the_first_that_serves(rt: HostRuntime) -> Result<(), Fail> 
     ];
     assert_eq!(rt; walked.got, Some(3));
     assert!(rt; walked.refusals.items() == refusals.as_slice());
+    Ok(())
+}
+
+#[test]
+fn a_walk_goes_on_where_the_link_fails(rt: HostRuntime) -> Result<(), Fail> {
+    let want = wanted().ok_or("want")?;
+    let serves = Answer::Serve { hash: WANTED };
+    let both = [
+        source("pc9", Kind::Peer, 2)?,
+        source("dp4", Kind::Point, 3)?,
+    ];
+    let mut answers = Vec::new(rt.alloc());
+    for row in &both {
+        answers.push((row.name, serves))?;
+    }
+    let mut link = MemLink::new(rt.alloc(), answers, [0].to_vec(rt.alloc())?);
+    let walked = walk(rt.alloc(), &both, &mut link, &want)?;
+    assert_eq!(rt; walked.got, Some(1));
+    let failed = Refused {
+        source: 0,
+        why: Why::Link,
+    };
+    assert!(rt; walked.refusals.items() == [failed].as_slice());
     Ok(())
 }
 
