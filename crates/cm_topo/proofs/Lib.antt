@@ -1,7 +1,7 @@
 pub mod Accepted
 pub mod Given
-pub mod Referring
 pub mod Modest
+pub mod Referring
 pub mod RightReading
 pub mod RowSteps
 pub mod Steps
