@@ -1,5 +1,5 @@
 -- One source more in a walk.
-use Rattle.std.proofs.Common.{◌≡◌, ℕ, ◌+◌, ◌-◌, ◌<◌, List, [], ◌∷◌, ◌++◌, length, take, cond, Result, Ok, Err, OnErr, Option, None, Some, refl, sym, ap, ◌∙◌, arith, add-one, add-zero, append_assoc, get_or}
+use Rattle.std.proofs.Common.{◌≡◌, ℕ, ◌+◌, ◌<◌, List, [], ◌∷◌, ◌++◌, length, take, cond, Result, Ok, Err, OnErr, Option, None, Some, refl, sym, ap, ◌∙◌, arith, add-one, add-zero, append_assoc, get_or}
 use Rattle.std.proofs.lemmas.List.Sums.{sum_by-append}
 use Rattle.std.proofs.Math.Seq.{take-suc}
 use Rattle.cm_peer.specs.declared.offers.Want.{Want}

@@ -2,6 +2,5 @@ pub mod Accepted
 pub mod Given
 pub mod Modest
 pub mod Referring
-pub mod RightReading
 pub mod RowSteps
 pub mod Steps

@@ -6,7 +6,6 @@ use Rattle.cm_topo.specs.declared.part.Part.{Part}
 use Rattle.cm_topo.specs.declared.part.Part.TheVariants.{Boundaries, Groups, Points, PointGroups, Peers}
 use Rattle.cm_topo.specs.declared.trouble.Trouble.{Trouble}
 use Rattle.cm_topo.specs.Keys.{code_said, items_of, items_said}
-use Rattle.cm_topo.specs.Net.{Net}
 use Rattle.cm_topo.specs.Tables.{data_troubles, default_troubles, group_relations_troubles}
 use Rattle.cm_topo.specs.Troubles.{each_entry, fault_at, first, limit_troubles, wrong}
 
@@ -34,40 +33,40 @@ key_of PointGroups = codes "point_group"
 key_of Peers = codes "peer"
 
 -- what is wrong with the entry of that number: first the limit, then its keys
-abbrev pub entry_troubles : Net → Part → ℕ → Data → List Trouble
-entry_troubles net part entry d = limit_troubles (limit_of part) entry ++ data_troubles net part d
+abbrev pub entry_troubles : Part → ℕ → Data → List Trouble
+entry_troubles part entry d = limit_troubles (limit_of part) entry ++ data_troubles part d
 
 -- the entries of a part in order, or the part itself
-abbrev pub entries_faults : Net → Part → Result (List Data) Trouble → List Placed
-entries_faults net part (Err trouble) = fault_at (number_of part) 0 trouble ∷ []
-entries_faults net part (Ok ds) = each_entry (number_of part) (entry_troubles net part) 0 ds
+abbrev pub entries_faults : Part → Result (List Data) Trouble → List Placed
+entries_faults part (Err trouble) = fault_at (number_of part) 0 trouble ∷ []
+entries_faults part (Ok ds) = each_entry (number_of part) (entry_troubles part) 0 ds
 
-abbrev pub part_faults : Net → Part → Members → List Placed
-part_faults net part d = entries_faults net part (items_said (get_member (key_of part) d))
+abbrev pub part_faults : Part → Members → List Placed
+part_faults part d = entries_faults part (items_said (get_member (key_of part) d))
 
 -- the relations, group by group
 abbrev pub relations_faults : List Data → List Placed
 relations_faults groups = each_entry 3 (λ _ d. group_relations_troubles d) 0 groups
 
 -- the code, the boundaries, the groups and their relations
-abbrev pub groups_pass : Net → Members → List Placed
-groups_pass net d =
+abbrev pub groups_pass : Members → List Placed
+groups_pass d =
     map (fault_at 0 0) (wrong (code_said (get_member (codes "code") d)))
-    ++ part_faults net Boundaries d
-    ++ part_faults net Groups d
+    ++ part_faults Boundaries d
+    ++ part_faults Groups d
     ++ relations_faults (items_of (get_member (codes "group") d))
 
 -- the points, the point groups, the peers and the default points
-abbrev pub servers_pass : Net → Members → List Placed
-servers_pass net d =
-    part_faults net Points d
-    ++ part_faults net PointGroups d
-    ++ part_faults net Peers d
+abbrev pub servers_pass : Members → List Placed
+servers_pass d =
+    part_faults Points d
+    ++ part_faults PointGroups d
+    ++ part_faults Peers d
     ++ map (fault_at 7 0) (default_troubles (get_member (codes "default") d))
 
 -- all parts in order
-abbrev pub first_pass : Net → Members → List Placed
-first_pass net d = groups_pass net d ++ servers_pass net d
+abbrev pub first_pass : Members → List Placed
+first_pass d = groups_pass d ++ servers_pass d
 
 -- nothing is wrong with the relations
 abbrev pub AreRelationsRight : Members → Type 0

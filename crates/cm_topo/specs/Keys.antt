@@ -10,10 +10,10 @@ use Rattle.cm_groups.specs.declared.fallback.Fallback.{Fallback}
 use Rattle.cm_groups.specs.declared.fallback.Fallback.TheVariants.{Never, After}
 use Rattle.cm_net.specs.declared.address.Address.{Address}
 use Rattle.cm_net.specs.declared.boundary.Boundary.{Boundary}
+use Rattle.cm_net.specs.Readings.{address_in, boundary_in}
 use Rattle.toml.specs.Data.{Data, Items, no_items, item, as_array, as_bool, as_integer, as_str}
 use Rattle.cm_topo.specs.declared.trouble.Trouble.{Trouble}
 use Rattle.cm_topo.specs.declared.trouble.Trouble.TheVariants.{Shape, Broken}
-use Rattle.cm_topo.specs.Net.{Net}
 use Rattle.cm_topo.specs.Rules.{bad_address, bad_name, too_long_fallback, most_minutes}
 use Rattle.cm_topo.specs.Troubles.{wrong}
 
@@ -55,21 +55,21 @@ abbrev pub code_said : Option Data → Result (List ℕ) Trouble
 code_said value = formed bad_name code_of (option_and_then as_str value)
 
 -- an address
-abbrev pub address_said : Net → Option Data → Result Address Trouble
-address_said net value = formed bad_address net.address (option_and_then as_str value)
+abbrev pub address_said : Option Data → Result Address Trouble
+address_said value = formed bad_address address_in (option_and_then as_str value)
 
 -- a rule that is broken, as a trouble
 abbrev pub broken : {X : Type 0} → Result X ℕ → Result X Trouble
 broken (Ok x) = Ok x
 broken (Err rule) = Err (Broken rule)
 
-abbrev pub boundary_from : Net → Option (List ℕ) → Result Boundary Trouble
-boundary_from net None = Err Shape
-boundary_from net (Some text) = broken (net.boundary text)
+abbrev pub boundary_from : Option (List ℕ) → Result Boundary Trouble
+boundary_from None = Err Shape
+boundary_from (Some text) = broken (boundary_in text)
 
 -- a boundary
-abbrev pub boundary_said : Net → Option Data → Result Boundary Trouble
-boundary_said net value = boundary_from net (option_and_then as_str value)
+abbrev pub boundary_said : Option Data → Result Boundary Trouble
+boundary_said value = boundary_from (option_and_then as_str value)
 
 -- a value that may be absent
 abbrev pub perhaps : {X : Type 0} → Result X Trouble → Result (Option X) Trouble

@@ -1,6 +1,5 @@
 pub mod FirstPass
 pub mod Keys
-pub mod Net
 pub mod Outcomes
 pub mod Rows
 pub mod Rules

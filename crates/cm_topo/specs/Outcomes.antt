@@ -11,7 +11,6 @@ use Rattle.cm_topo.specs.declared.stop.Stop.TheVariants as stop
 use Rattle.cm_topo.specs.declared.topology.Topology.{Topology}
 use Rattle.cm_topo.specs.declared.topology_text.TopologyText.{TopologyText}
 use Rattle.cm_topo.specs.FirstPass.{first_pass}
-use Rattle.cm_topo.specs.Net.{Net, reading}
 use Rattle.cm_topo.specs.Rows.{text_of}
 use Rattle.cm_topo.specs.SecondPass.{second_pass}
 use Rattle.cm_topo.specs.Troubles.{fault_of}
@@ -21,8 +20,8 @@ abbrev pub IsDocument : List ℕ → Members → Type 0
 IsDocument bytes d = IsUtf8 bytes × (parse_document bytes ≡ Some d)
 
 -- all that is wrong with a document, in order
-abbrev pub faults : Net → Members → List Placed
-faults net d = first_pass net d ++ second_pass (text_of net d)
+abbrev pub faults : Members → List Placed
+faults d = first_pass d ++ second_pass (text_of d)
 
 -- the topology of rows without a fault
 abbrev pub topology_of : TopologyText → Topology
@@ -40,8 +39,8 @@ unless_faulty [] topology = Ok topology
 unless_faulty (fault ∷ more) topology = Err (fault_of fault)
 
 -- what a document comes to
-abbrev pub outcome : Net → Members → Result Topology TopoFault
-outcome net d = unless_faulty (faults net d) (topology_of (text_of net d))
+abbrev pub outcome : Members → Result Topology TopoFault
+outcome d = unless_faulty (faults d) (topology_of (text_of d))
 
 -- a reader gave the outcome, or had no memory
 abbrev pub Gives : Result Topology Stop → Result Topology TopoFault → Type 0
@@ -53,7 +52,7 @@ Gives (Err (stop.Fault placed)) come = come ≡ Err (fault_of placed)
 pub record Comes (bytes : List ℕ) (answer : Result Topology TopoFault) : Type 0 where
   pub document : Members
   pub is_document : IsDocument bytes document
-  pub comes : outcome reading document ≡ answer
+  pub comes : outcome document ≡ answer
 
 -- what an answer says of the bytes
 abbrev pub Says : List ℕ → Result Topology TopoFault → Type 0

@@ -16,7 +16,6 @@ use Rattle.toml.specs.Data.{Data, Members, as_table, get_member}
 use Rattle.cm_topo.specs.declared.topology_text.TopologyText.{TopologyText}
 use Rattle.cm_topo.specs.declared.trouble.Trouble.{Trouble}
 use Rattle.cm_topo.specs.Keys.{address_said, boundary_said, code_said, flag_said, items_of, label_said, labels_in, minutes_said, name_said, names_in, number_said, point_name_said, site_said}
-use Rattle.cm_topo.specs.Net.{Net}
 
 -- both values, where both are of their form
 abbrev pub both : {A B : Type 0} → Result A Trouble → Result B Trouble → Option (A × B)
@@ -29,8 +28,8 @@ abbrev pub rows_in : {X : Type 0} → (Members → Option X) → List Data → L
 rows_in row ds = filter_map (λ d. option_and_then row (as_table d)) ds
 
 -- `[[boundary]]`
-abbrev pub boundary_row : Net → Members → Option (List ℕ × Boundary)
-boundary_row net d = both (label_said (get_member (codes "name") d)) (boundary_said net (get_member (codes "at") d))
+abbrev pub boundary_row : Members → Option (List ℕ × Boundary)
+boundary_row d = both (label_said (get_member (codes "name") d)) (boundary_said (get_member (codes "at") d))
 
 -- `[[group.relation]]`
 abbrev pub relation_row : Members → Option (List ℕ × Fallback)
@@ -75,8 +74,8 @@ point_from (Ok name) (Ok address) (Err trouble) sources = None
 point_from (Ok name) (Err trouble) site sources = None
 point_from (Err trouble) address site sources = None
 
-abbrev pub point_row : Net → Members → Option Point
-point_row net d = point_from (point_name_said (get_member (codes "name") d)) (address_said net (get_member (codes "address") d))
+abbrev pub point_row : Members → Option Point
+point_row d = point_from (point_name_said (get_member (codes "name") d)) (address_said (get_member (codes "address") d))
     (site_said (get_member (codes "site") d)) (rows_in source_row (items_of (get_member (codes "sources") d)))
 
 -- `[[point_group]]`
@@ -94,8 +93,8 @@ peer_from (Ok name) (Ok address) (Err trouble) connections = None
 peer_from (Ok name) (Err trouble) site connections = None
 peer_from (Err trouble) address site connections = None
 
-abbrev pub peer_row : Net → Members → Option Peer
-peer_row net d = peer_from (name_said (get_member (codes "name") d)) (address_said net (get_member (codes "address") d))
+abbrev pub peer_row : Members → Option Peer
+peer_row d = peer_from (name_said (get_member (codes "name") d)) (address_said (get_member (codes "address") d))
     (site_said (get_member (codes "site") d)) (number_said 65535 (get_member (codes "connections") d))
 
 -- `[default]`
@@ -107,13 +106,13 @@ default_points None = []
 default_points (Some d) = points_of_default d
 
 -- the document as rows
-abbrev pub text_of : Net → Members → TopologyText
-text_of net d = record {
+abbrev pub text_of : Members → TopologyText
+text_of d = record {
   code = result_unwrap_or (code_said (get_member (codes "code") d)) [];
-  boundaries = rows_in (boundary_row net) (items_of (get_member (codes "boundary") d));
+  boundaries = rows_in boundary_row (items_of (get_member (codes "boundary") d));
   groups = rows_in group_row (items_of (get_member (codes "group") d));
-  points = rows_in (point_row net) (items_of (get_member (codes "point") d));
+  points = rows_in point_row (items_of (get_member (codes "point") d));
   point_groups = rows_in point_group_row (items_of (get_member (codes "point_group") d));
-  peers = rows_in (peer_row net) (items_of (get_member (codes "peer") d));
+  peers = rows_in peer_row (items_of (get_member (codes "peer") d));
   default_points = default_points (option_and_then as_table (get_member (codes "default") d));
 }

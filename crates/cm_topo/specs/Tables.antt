@@ -7,7 +7,6 @@ use Rattle.cm_topo.specs.declared.part.Part.TheVariants.{Boundaries, Groups, Poi
 use Rattle.cm_topo.specs.declared.trouble.Trouble.{Trouble}
 use Rattle.cm_topo.specs.declared.trouble.Trouble.TheVariants.{Shape}
 use Rattle.cm_topo.specs.Keys.{address_said, boundary_said, flag_said, items_said, label_said, labels_troubles, list_troubles, minutes_said, name_said, names_troubles, number_said, point_name_said, site_said}
-use Rattle.cm_topo.specs.Net.{Net}
 use Rattle.cm_topo.specs.Rules.{most_relations, no_pull_source}
 use Rattle.cm_topo.specs.Troubles.{broken_if, limit_troubles, numbered, wrong}
 
@@ -21,10 +20,10 @@ if_table troubles None = []
 if_table troubles (Some d) = troubles d
 
 -- `[[boundary]]`
-abbrev pub boundary_troubles : Net → Members → List Trouble
-boundary_troubles net d =
+abbrev pub boundary_troubles : Members → List Trouble
+boundary_troubles d =
     wrong (label_said (get_member (codes "name") d))
-    ++ wrong (boundary_said net (get_member (codes "at") d))
+    ++ wrong (boundary_said (get_member (codes "at") d))
 
 -- the three truth values of a group
 abbrev pub options_troubles : Members → List Trouble
@@ -82,10 +81,10 @@ sources_said_troubles None = []
 sources_said_troubles (Some value) = list_troubles sources_troubles (items_said (Some value))
 
 -- `[[point]]`
-abbrev pub point_troubles : Net → Members → List Trouble
-point_troubles net d =
+abbrev pub point_troubles : Members → List Trouble
+point_troubles d =
     wrong (point_name_said (get_member (codes "name") d))
-    ++ wrong (address_said net (get_member (codes "address") d))
+    ++ wrong (address_said (get_member (codes "address") d))
     ++ wrong (site_said (get_member (codes "site") d))
     ++ sources_said_troubles (get_member (codes "sources") d)
 
@@ -96,23 +95,23 @@ point_group_troubles d =
     ++ list_troubles names_troubles (items_said (get_member (codes "members") d))
 
 -- `[[peer]]`
-abbrev pub peer_troubles : Net → Members → List Trouble
-peer_troubles net d =
+abbrev pub peer_troubles : Members → List Trouble
+peer_troubles d =
     wrong (name_said (get_member (codes "name") d))
-    ++ wrong (address_said net (get_member (codes "address") d))
+    ++ wrong (address_said (get_member (codes "address") d))
     ++ wrong (site_said (get_member (codes "site") d))
     ++ wrong (number_said 65535 (get_member (codes "connections") d))
 
 -- a table of a part
-abbrev pub table_troubles : Net → Part → Members → List Trouble
-table_troubles net Boundaries d = boundary_troubles net d
-table_troubles net Groups d = group_troubles d
-table_troubles net Points d = point_troubles net d
-table_troubles net PointGroups d = point_group_troubles d
-table_troubles net Peers d = peer_troubles net d
+abbrev pub table_troubles : Part → Members → List Trouble
+table_troubles Boundaries d = boundary_troubles d
+table_troubles Groups d = group_troubles d
+table_troubles Points d = point_troubles d
+table_troubles PointGroups d = point_group_troubles d
+table_troubles Peers d = peer_troubles d
 
-abbrev pub data_troubles : Net → Part → Data → List Trouble
-data_troubles net part d = in_table (table_troubles net part) (as_table d)
+abbrev pub data_troubles : Part → Data → List Trouble
+data_troubles part d = in_table (table_troubles part) (as_table d)
 
 -- `[default]`
 abbrev pub default_points_troubles : Members → List Trouble

@@ -4,7 +4,6 @@ ghost use Rattle.toml.specs.Data.{get_member};
 ghost use Rattle.toml.specs.View.{table_view, view};
 ghost use Rattle.cm_topo.specs.FirstPass.{AreFewGroups, AreFewServers, AreRelationsRight, entries_faults, entry_troubles, first_pass, groups_pass, key_of, limit_of, part_faults, relations_faults, servers_pass};
 ghost use Rattle.cm_topo.specs.Keys.{code_said, items_of};
-ghost use Rattle.cm_topo.specs.Net.{Net, IsRight};
 ghost use Rattle.cm_topo.specs.Tables.{default_troubles};
 ghost use Rattle.cm_topo.specs.Troubles.{each_entry, fault_at, first, wrong};
 
@@ -19,7 +18,7 @@ use toml::{Table, Value};
 
 /// What is wrong with the entry of that number.
 fn entry_trouble(part: Part, entry: usize, value: &Value) -> Option<Trouble>
-    ensures first { (net : Net) → IsRight net → first (entry_troubles net part entry (view value.now)) ≡ result }
+    ensures first { first (entry_troubles part entry (view value.now)) ≡ result }
     ensures few { IfNone result (entry < limit_of part) }
 {
     if entry >= part.limit() {
@@ -30,7 +29,7 @@ fn entry_trouble(part: Part, entry: usize, value: &Value) -> Option<Trouble>
 
 /// The first fault of the entries of a part.
 fn entries_fault(part: Part, values: &[Value]) -> Option<Placed>
-    ensures first { (net : Net) → IsRight net → first (entries_faults net part (Ok (map view values.now))) ≡ result }
+    ensures first { first (entries_faults part (Ok (map view values.now))) ≡ result }
     ensures few { IfNone result (length values.now ≤ limit_of part) }
 {
     let number = part.number();
@@ -45,7 +44,7 @@ fn entries_fault(part: Part, values: &[Value]) -> Option<Placed>
 
 /// The first fault of a part.
 fn part_fault(part: Part, table: &Table) -> Option<Placed>
-    ensures first { (net : Net) → IsRight net → first (part_faults net part (table_view table.now)) ≡ result }
+    ensures first { first (part_faults part (table_view table.now)) ≡ result }
     ensures few { IfNone result (length (items_of (get_member (key_of part) (table_view table.now))) ≤ limit_of part) }
 {
     match items_at(table, part.key()) {
@@ -89,7 +88,7 @@ fn default_fault(table: &Table) -> Option<Placed>
 
 /// The first fault of the code, the boundaries, the groups and their relations.
 fn groups_fault(table: &Table) -> Option<Placed>
-    ensures first { (net : Net) → IsRight net → first (groups_pass net (table_view table.now)) ≡ result }
+    ensures first { first (groups_pass (table_view table.now)) ≡ result }
     ensures few { IfNone result (AreFewGroups (table_view table.now)) }
     ensures relations { IfNone result (AreRelationsRight (table_view table.now)) }
 {
@@ -107,7 +106,7 @@ fn groups_fault(table: &Table) -> Option<Placed>
 
 /// The first fault of the points, the point groups, the peers and the default points.
 fn servers_fault(table: &Table) -> Option<Placed>
-    ensures first { (net : Net) → IsRight net → first (servers_pass net (table_view table.now)) ≡ result }
+    ensures first { first (servers_pass (table_view table.now)) ≡ result }
     ensures few { IfNone result (AreFewServers (table_view table.now)) }
 {
     if let Some(fault) = part_fault(Part::Points, table) {
@@ -124,7 +123,7 @@ fn servers_fault(table: &Table) -> Option<Placed>
 
 /// The first fault of the first pass.
 pub(crate) fn first_pass_fault(table: &Table) -> Option<Placed>
-    ensures first { (net : Net) → IsRight net → first (first_pass net (table_view table.now)) ≡ result }
+    ensures first { first (first_pass (table_view table.now)) ≡ result }
     ensures groups { IfNone result (AreFewGroups (table_view table.now)) }
     ensures relations { IfNone result (AreRelationsRight (table_view table.now)) }
     ensures servers { IfNone result (AreFewServers (table_view table.now)) }

@@ -2,10 +2,10 @@
 ghost use Rattle.std.specs.Prelude.{◌≡◌, ◌≤◌, IfOk, IfSome, Some};
 ghost use Rattle.cm_net.specs.Boundaries.{IsSound};
 ghost use Rattle.cm_net.specs.Meanings.{IsAddressOf, IsBoundaryOf, rule_of};
+ghost use Rattle.cm_net.specs.Readings.{address_in as address_meant, boundary_in as boundary_meant};
 ghost use Rattle.toml.specs.Data.{get_member};
 ghost use Rattle.toml.specs.View.{table_view, view};
 ghost use Rattle.cm_topo.specs.Keys.{address_said, boundary_said, code_said, flag_said, is_reserved, label_said, minutes_said, name_said, number_said, point_name_said, site_said, within};
-ghost use Rattle.cm_topo.specs.Net.{Net, IsRight};
 
 use crate::document::value_at;
 use crate::rules::{
@@ -128,9 +128,9 @@ fn address_read(text: &[u8]) -> Option<Address>
     }
 }
 
-/// The address that a text spells, as every right reading has it.
+/// The address that a text spells, as a function of the text.
 fn address_of(text: &[u8]) -> Option<Address>
-    ensures { (net : Net) → IsRight net → net.address text.now ≡ result }
+    ensures { result ≡ address_meant text.now }
 {
     each_text_is_read();
     address_read(text)
@@ -138,7 +138,7 @@ fn address_of(text: &[u8]) -> Option<Address>
 
 /// The address that a value is.
 fn address_in(value: &Value) -> Result<Address, Trouble>
-    ensures { (net : Net) → IsRight net → address_said net (Some (view value.now)) ≡ result }
+    ensures { address_said (Some (view value.now)) ≡ result }
 {
     let Some(text) = value.as_str() else {
         return Err(Trouble::Shape);
@@ -151,7 +151,7 @@ fn address_in(value: &Value) -> Result<Address, Trouble>
 
 /// The address at a key.
 pub(crate) fn address_at(table: &Table, key: &str) -> Result<Address, Trouble>
-    ensures { (net : Net) → IsRight net → address_said net (get_member key.now (table_view table.now)) ≡ result }
+    ensures { address_said (get_member key.now (table_view table.now)) ≡ result }
 {
     match value_at(table, key) {
         Some(value) => address_in(value),
@@ -183,9 +183,9 @@ fn boundary_read(text: &[u8]) -> Result<Boundary, u8>
     }
 }
 
-/// The boundary that a text spells, or the rule that it breaks, as every right reading has it.
+/// The boundary that a text spells, or the rule that it breaks, as a function of the text.
 fn boundary_of(text: &[u8]) -> Result<Boundary, u8>
-    ensures read { (net : Net) → IsRight net → net.boundary text.now ≡ result }
+    ensures read { result ≡ boundary_meant text.now }
     ensures sound { IfOk result (λ boundary. IsSound boundary) }
 {
     each_text_is_read();
@@ -194,7 +194,7 @@ fn boundary_of(text: &[u8]) -> Result<Boundary, u8>
 
 /// The boundary that a value is.
 fn boundary_in(value: &Value) -> Result<Boundary, Trouble>
-    ensures said { (net : Net) → IsRight net → boundary_said net (Some (view value.now)) ≡ result }
+    ensures said { boundary_said (Some (view value.now)) ≡ result }
     ensures sound { IfOk result (λ boundary. IsSound boundary) }
 {
     let Some(text) = value.as_str() else {
@@ -208,7 +208,7 @@ fn boundary_in(value: &Value) -> Result<Boundary, Trouble>
 
 /// The boundary at a key.
 pub(crate) fn boundary_at(table: &Table, key: &str) -> Result<Boundary, Trouble>
-    ensures said { (net : Net) → IsRight net → boundary_said net (get_member key.now (table_view table.now)) ≡ result }
+    ensures said { boundary_said (get_member key.now (table_view table.now)) ≡ result }
     ensures sound { IfOk result (λ boundary. IsSound boundary) }
 {
     match value_at(table, key) {

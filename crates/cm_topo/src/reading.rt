@@ -6,7 +6,6 @@ ghost use Rattle.toml.specs.Data.{get_member};
 ghost use Rattle.toml.specs.View.{table_view};
 ghost use Rattle.cm_topo.specs.FirstPass.{AreFewGroups, AreFewServers, AreRelationsRight};
 ghost use Rattle.cm_topo.specs.Keys.{code_said, items_of};
-ghost use Rattle.cm_topo.specs.Net.{Net, IsRight, reading};
 ghost use Rattle.cm_topo.specs.Outcomes.{Gives, Says, outcome, topology_of, unless_faulty};
 ghost use Rattle.cm_topo.specs.Rows.{boundary_row, group_row, peer_row, point_group_row, point_row, rows_in, text_of};
 ghost use Rattle.cm_topo.specs.SecondPass.{IsFew, IsModest, second_pass};
@@ -23,7 +22,7 @@ use crate::topology_text::TopologyText;
 use crate::{TopoFault, Topology};
 use cm_base::{Label, List, Memory};
 use cm_groups::{GroupText, Groups, GroupsFault, SiteCode};
-use cm_net::{Boundary, each_text_is_read};
+use cm_net::Boundary;
 use cm_peer::Peer;
 use cm_points::{Point, PointGroup};
 use std::alloc::Global;
@@ -32,7 +31,7 @@ use toml::Table;
 /// The boundaries of a document.
 fn boundaries_of(alloc: Global, table: &Table) -> Result<Vec<(Label, Boundary)>, Memory>
     requires { length (items_of (get_member (codes "boundary") (table_view table.now))) ≤ 2000 }
-    ensures rows { (net : Net) → IsRight net → IfOk result (λ rows. rows_in (boundary_row net) (items_of (get_member (codes "boundary") (table_view table.now))) ≡ rows.items) }
+    ensures rows { IfOk result (λ rows. rows_in boundary_row (items_of (get_member (codes "boundary") (table_view table.now))) ≡ rows.items) }
     ensures few { IfOk result (λ rows. length rows.items ≤ 2000) }
     ensures sound { IfOk result (λ rows. All (λ row. IsSound row.1) rows.items) }
 {
@@ -53,7 +52,7 @@ fn groups_of(alloc: Global, table: &Table) -> Result<Vec<GroupText>, Memory>
 /// The points of a document.
 fn points_of(alloc: Global, table: &Table) -> Result<Vec<Point>, Memory>
     requires { length (items_of (get_member (codes "point") (table_view table.now))) ≤ 64 }
-    ensures rows { (net : Net) → IsRight net → IfOk result (λ rows. rows_in (point_row net) (items_of (get_member (codes "point") (table_view table.now))) ≡ rows.items) }
+    ensures rows { IfOk result (λ rows. rows_in point_row (items_of (get_member (codes "point") (table_view table.now))) ≡ rows.items) }
     ensures few { IfOk result (λ rows. length rows.items ≤ 64) }
 {
     point_rows(alloc, items_or_none(table, "point"))
@@ -71,7 +70,7 @@ fn point_groups_of(alloc: Global, table: &Table) -> Result<Vec<PointGroup>, Memo
 /// The peers of a document.
 fn peers_of(alloc: Global, table: &Table) -> Result<Vec<Peer>, Memory>
     requires { length (items_of (get_member (codes "peer") (table_view table.now))) ≤ 5000 }
-    ensures rows { (net : Net) → IsRight net → IfOk result (λ rows. rows_in (peer_row net) (items_of (get_member (codes "peer") (table_view table.now))) ≡ rows.items) }
+    ensures rows { IfOk result (λ rows. rows_in peer_row (items_of (get_member (codes "peer") (table_view table.now))) ≡ rows.items) }
     ensures few { IfOk result (λ rows. length rows.items ≤ 5000) }
 {
     peer_rows(alloc, items_or_none(table, "peer"))
@@ -83,7 +82,7 @@ fn text_of(alloc: Global, table: &Table, code: SiteCode) -> Result<TopologyText,
     requires groups { AreFewGroups (table_view table.now) }
     requires servers { AreFewServers (table_view table.now) }
     requires relations { AreRelationsRight (table_view table.now) }
-    ensures text { (net : Net) → IsRight net → IfOk result (λ text. text_of net (table_view table.now) ≡ text) }
+    ensures text { IfOk result (λ text. text_of (table_view table.now) ≡ text) }
     ensures few { IfOk result (λ text. IsFew text) }
     ensures modest { IfOk result (λ text. All IsModest text.groups) }
     ensures sound { IfOk result (λ text. All (λ row. IsSound row.1) text.boundaries) }
@@ -165,7 +164,7 @@ fn second_of(alloc: Global, text: TopologyText) -> Result<Topology, Stop>
 /// The topology of a document that has this code.
 fn first_of(alloc: Global, table: &Table, code: SiteCode) -> Result<Topology, Stop>
     requires { code_said (get_member (codes "code") (table_view table.now)) ≡ Ok code }
-    ensures { (net : Net) → IsRight net → Gives result (outcome net (table_view table.now)) }
+    ensures { Gives result (outcome (table_view table.now)) }
 {
     if let Some(placed) = first_pass_fault(table) {
         return Err(Stop::Fault(placed));
@@ -176,9 +175,8 @@ fn first_of(alloc: Global, table: &Table, code: SiteCode) -> Result<Topology, St
 
 /// The topology of a document.
 fn topology_in(alloc: Global, table: &Table) -> Result<Topology, Stop>
-    ensures { Gives result (outcome reading (table_view table.now)) }
+    ensures { Gives result (outcome (table_view table.now)) }
 {
-    each_text_is_read();
     match code_at(table, "code") {
         Ok(code) => first_of(alloc, table, code),
         Err(trouble) => Err(Stop::Fault(trouble.at(0, 0))),

@@ -4,7 +4,6 @@ ghost use Rattle.std.specs.Option.{option_and_then};
 ghost use Rattle.cm_net.specs.Boundaries.{IsSound};
 ghost use Rattle.toml.specs.Data.{as_table, get_member};
 ghost use Rattle.toml.specs.View.{table_view, view};
-ghost use Rattle.cm_topo.specs.Net.{Net, IsRight};
 ghost use Rattle.cm_topo.specs.Rows.{boundary_row, default_points, flag_of, group_named, group_row, options_of, peer_row, point_group_named, point_group_row, point_row, relation_row, rows_in, source_row};
 
 use crate::document::{items_or_none, value_at};
@@ -24,7 +23,7 @@ use toml::{Table, Value};
 
 /// The boundary of a table.
 fn boundary_row(table: &Table) -> Option<(Label, Boundary)>
-    ensures row { (net : Net) → IsRight net → boundary_row net (table_view table.now) ≡ result }
+    ensures row { boundary_row (table_view table.now) ≡ result }
     ensures sound { IfSome result (λ row. IsSound row.1) }
 {
     let Ok(name) = label_at(table, "name") else {
@@ -38,7 +37,7 @@ fn boundary_row(table: &Table) -> Option<(Label, Boundary)>
 
 /// The boundary of a value.
 fn boundary_in(value: &Value) -> Option<(Label, Boundary)>
-    ensures row { (net : Net) → IsRight net → option_and_then (boundary_row net) (as_table (view value.now)) ≡ result }
+    ensures row { option_and_then boundary_row (as_table (view value.now)) ≡ result }
     ensures sound { IfSome result (λ row. IsSound row.1) }
 {
     match value.as_table() {
@@ -52,7 +51,7 @@ pub(crate) fn boundary_rows(
     alloc: Global,
     values: &[Value],
 ) -> Result<Vec<(Label, Boundary)>, Memory>
-    ensures rows { (net : Net) → IsRight net → IfOk result (λ rows. rows_in (boundary_row net) (map view values.now) ≡ rows.items) }
+    ensures rows { IfOk result (λ rows. rows_in boundary_row (map view values.now) ≡ rows.items) }
     ensures sound { IfOk result (λ rows. All (λ row. IsSound row.1) rows.items) }
     ensures few { IfOk result (λ rows. length rows.items ≤ length values.now) }
 {
@@ -210,7 +209,7 @@ fn source_rows(alloc: Global, values: &[Value]) -> Result<Vec<PullSource>, Memor
 
 /// The point of a table.
 fn point_row(alloc: Global, table: &Table) -> Result<Option<Point>, Memory>
-    ensures { (net : Net) → IsRight net → IfOk result (λ row. point_row net (table_view table.now) ≡ row) }
+    ensures { IfOk result (λ row. point_row (table_view table.now) ≡ row) }
 {
     let sources = source_rows(alloc, items_or_none(table, "sources"))?;
     let Ok(name) = point_name_at(table, "name") else {
@@ -232,7 +231,7 @@ fn point_row(alloc: Global, table: &Table) -> Result<Option<Point>, Memory>
 
 /// The point of a value.
 fn point_in(alloc: Global, value: &Value) -> Result<Option<Point>, Memory>
-    ensures { (net : Net) → IsRight net → IfOk result (λ row. option_and_then (point_row net) (as_table (view value.now)) ≡ row) }
+    ensures { IfOk result (λ row. option_and_then point_row (as_table (view value.now)) ≡ row) }
 {
     match value.as_table() {
         Some(table) => point_row(alloc, table),
@@ -242,7 +241,7 @@ fn point_in(alloc: Global, value: &Value) -> Result<Option<Point>, Memory>
 
 /// The points among some items.
 pub(crate) fn point_rows(alloc: Global, values: &[Value]) -> Result<Vec<Point>, Memory>
-    ensures rows { (net : Net) → IsRight net → IfOk result (λ rows. rows_in (point_row net) (map view values.now) ≡ rows.items) }
+    ensures rows { IfOk result (λ rows. rows_in point_row (map view values.now) ≡ rows.items) }
     ensures few { IfOk result (λ rows. length rows.items ≤ length values.now) }
 {
     let mut rows = Vec::new(alloc);
@@ -301,7 +300,7 @@ pub(crate) fn point_group_rows(alloc: Global, values: &[Value]) -> Result<Vec<Po
 
 /// The peer of a table.
 fn peer_row(table: &Table) -> Option<Peer>
-    ensures { (net : Net) → IsRight net → peer_row net (table_view table.now) ≡ result }
+    ensures { peer_row (table_view table.now) ≡ result }
 {
     let Ok(name) = name_at(table, "name") else {
         return None;
@@ -325,7 +324,7 @@ fn peer_row(table: &Table) -> Option<Peer>
 
 /// The peer of a value.
 fn peer_in(value: &Value) -> Option<Peer>
-    ensures { (net : Net) → IsRight net → option_and_then (peer_row net) (as_table (view value.now)) ≡ result }
+    ensures { option_and_then peer_row (as_table (view value.now)) ≡ result }
 {
     match value.as_table() {
         Some(table) => peer_row(table),
@@ -354,7 +353,7 @@ fn add_peer(
 
 /// The peers among some items.
 pub(crate) fn peer_rows(alloc: Global, values: &[Value]) -> Result<Vec<Peer>, Memory>
-    ensures rows { (net : Net) → IsRight net → IfOk result (λ rows. rows_in (peer_row net) (map view values.now) ≡ rows.items) }
+    ensures rows { IfOk result (λ rows. rows_in peer_row (map view values.now) ≡ rows.items) }
     ensures few { IfOk result (λ rows. length rows.items ≤ length values.now) }
 {
     let mut rows = Vec::new(alloc);

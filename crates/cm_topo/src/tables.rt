@@ -4,7 +4,6 @@ ghost use Rattle.std.specs.List.{flat_map};
 ghost use Rattle.toml.specs.Data.{get_member};
 ghost use Rattle.toml.specs.View.{table_view, view};
 ghost use Rattle.cm_topo.specs.Keys.{items_said, labels_troubles, list_troubles, names_troubles};
-ghost use Rattle.cm_topo.specs.Net.{Net, IsRight};
 ghost use Rattle.cm_topo.specs.Tables.{boundary_troubles, default_troubles, data_troubles, group_relations_troubles, group_troubles, options_troubles, peer_troubles, point_group_troubles, point_troubles, relation_data_troubles, relation_entry_troubles, relation_troubles, relations_of_troubles, relations_troubles, source_data_troubles, source_troubles, sources_said_troubles, sources_troubles, table_troubles};
 ghost use Rattle.cm_topo.specs.Troubles.{first};
 
@@ -41,7 +40,7 @@ fn names_trouble_at(table: &Table, key: &str) -> Option<Trouble>
 
 /// What is wrong with a boundary.
 fn boundary_trouble(table: &Table) -> Option<Trouble>
-    ensures { (net : Net) → IsRight net → first (boundary_troubles net (table_view table.now)) ≡ result }
+    ensures { first (boundary_troubles (table_view table.now)) ≡ result }
 {
     if let Err(trouble) = label_at(table, "name") {
         return Some(trouble);
@@ -201,7 +200,7 @@ fn sources_of_trouble(table: &Table) -> Option<Trouble>
 
 /// What is wrong with a point.
 fn point_trouble(table: &Table) -> Option<Trouble>
-    ensures { (net : Net) → IsRight net → first (point_troubles net (table_view table.now)) ≡ result }
+    ensures { first (point_troubles (table_view table.now)) ≡ result }
 {
     if let Err(trouble) = point_name_at(table, "name") {
         return Some(trouble);
@@ -227,7 +226,7 @@ fn point_group_trouble(table: &Table) -> Option<Trouble>
 
 /// What is wrong with a peer.
 fn peer_trouble(table: &Table) -> Option<Trouble>
-    ensures { (net : Net) → IsRight net → first (peer_troubles net (table_view table.now)) ≡ result }
+    ensures { first (peer_troubles (table_view table.now)) ≡ result }
 {
     if let Err(trouble) = name_at(table, "name") {
         return Some(trouble);
@@ -246,7 +245,7 @@ fn peer_trouble(table: &Table) -> Option<Trouble>
 
 /// What is wrong with a table of a part.
 fn table_trouble(part: Part, table: &Table) -> Option<Trouble>
-    ensures { (net : Net) → IsRight net → first (table_troubles net part (table_view table.now)) ≡ result }
+    ensures { first (table_troubles part (table_view table.now)) ≡ result }
 {
     match part {
         Part::Boundaries => boundary_trouble(table),
@@ -259,7 +258,7 @@ fn table_trouble(part: Part, table: &Table) -> Option<Trouble>
 
 /// What is wrong with a value that must be a table of a part.
 pub(crate) fn data_trouble(part: Part, value: &Value) -> Option<Trouble>
-    ensures { (net : Net) → IsRight net → first (data_troubles net part (view value.now)) ≡ result }
+    ensures { first (data_troubles part (view value.now)) ≡ result }
 {
     match value.as_table() {
         Some(table) => table_trouble(part, table),

@@ -1,7 +1,4 @@
-use Rattle.std.proofs.Common.{sym, ◌∙◌}
 use Rattle.cm_topo.proofs.keys.address_of.Goals as goal
 
 pub returns : goal.returns
-returns c = λ net right.
-    (c.each_text_is_read.ensures.address c.args.text.now _).0 (right.address c.args.text.now)
-    ∙ sym ((c.each_text_is_read.ensures.address c.args.text.now _).0 c.address_read.ensures)
+returns c = (c.each_text_is_read.ensures.address c.args.text.now _).0 c.address_read.ensures

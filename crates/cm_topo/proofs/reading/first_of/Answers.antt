@@ -9,8 +9,8 @@ use Rattle.cm_topo.proofs.Given.{gives_later}
 use Rattle.cm_topo.proofs.reading.first_of.Goals as goal
 
 pub returns : goal.returns
-returns c = λ net right.
+returns c =
     let P : TopologyText → Type 0 = λ text. Gives c.second_of.result (unless_faulty (second_pass text) (topology_of text)) in
     let d = table_view c.args.table.now in
-    gives_later (first_pass net d) (second_pass (text_of net d)) c.second_of.result (topology_of (text_of net d)) (c.in_default.ensures.first net right)
-    (subst P (sym (c.in_ok-text.ensures.text net right)) c.second_of.ensures)
+    gives_later (first_pass d) (second_pass (text_of d)) c.second_of.result (topology_of (text_of d)) c.in_default.ensures.first
+    (subst P (sym c.in_ok-text.ensures.text) c.second_of.ensures)

@@ -11,17 +11,15 @@ loop-value-preserved c =
       | in-Some+in_ok-add_peer w ↦
           let more : c.match-peer_in.rows.items ≡ c.loop-value.rows.items ++ w.in-Some.row ∷ [] = ap (λ (rows : Vec Peer Global). rows.items) w.rows-is ∙ w.in_ok-add_peer.ensures in
           record {
-            rest = λ net right.
-                rows_some (peer_row net) c.args.values.now c.loop-value.value-index c.value-item.result w.in-Some.row c.loop-value.rows.items c.match-peer_in.rows.items (omega arith) c.value-item.is
-                (w.in-Some.ensures net right) more (c.loop-value.invariant.rest net right);
+            rest = rows_some peer_row c.args.values.now c.loop-value.value-index c.value-item.result w.in-Some.row c.loop-value.rows.items c.match-peer_in.rows.items (omega arith) c.value-item.is
+                w.in-Some.ensures more c.loop-value.invariant.rest;
             few = omega (arith, ap length more, length-append c.loop-value.rows.items (w.in-Some.row ∷ []));
           }
       | in_default w ↦
           let same : c.match-peer_in.rows.items ≡ c.loop-value.rows.items = ap (λ (rows : Vec Peer Global). rows.items) w.rows-is in
           record {
-            rest = λ net right.
-                rows_none (peer_row net) c.args.values.now c.loop-value.value-index c.value-item.result c.loop-value.rows.items c.match-peer_in.rows.items (omega arith) c.value-item.is (w.in_default.ensures net right) same
-                (c.loop-value.invariant.rest net right);
+            rest = rows_none peer_row c.args.values.now c.loop-value.value-index c.value-item.result c.loop-value.rows.items c.match-peer_in.rows.items (omega arith) c.value-item.is (w.in_default.ensures) same
+                c.loop-value.invariant.rest;
             few = omega (arith, ap length same);
           }
     ]

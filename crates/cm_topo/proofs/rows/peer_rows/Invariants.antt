@@ -1,11 +1,10 @@
 use Rattle.std.proofs.Common.{◌≡◌, ◌≤◌, ◌++◌, drop, length, map}
 use Rattle.toml.specs.View.{view}
-use Rattle.cm_topo.specs.Net.{Net, IsRight}
 use Rattle.cm_topo.specs.Rows.{peer_row, rows_in}
 use Rattle.cm_topo.proofs.rows.peer_rows.Given as goal
 
 abbrev pub invariant-loop-value : goal.invariant-loop-value
 invariant-loop-value l = record {
-  rest : (net : Net) → IsRight net → rows_in (peer_row net) (map view l.values) ≡ l.rows.items ++ rows_in (peer_row net) (map view (drop l.value-index l.values));
+  rest : rows_in peer_row (map view l.values) ≡ l.rows.items ++ rows_in peer_row (map view (drop l.value-index l.values));
   few : length l.rows.items ≤ l.value-index;
 }
