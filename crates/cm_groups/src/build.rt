@@ -1,5 +1,5 @@
 //! Groups from texts.
-ghost use Rattle.std.specs.Prelude.{◌≡◌, ◌≤◌, None, All, IfErr, IfOk, OnOk, length};
+ghost use Rattle.std.specs.Prelude.{◌≡◌, None, All, IfErr, IfOk, OnOk};
 ghost use Rattle.cm_net.specs.Boundaries.{IsSound};
 ghost use Rattle.cm_groups.specs.Faults.{IsFirst, first_fault};
 ghost use Rattle.cm_groups.specs.Groups.{groups_of};

@@ -3,7 +3,7 @@ ghost use Rattle.std.specs.Prelude.{◌≡◌, ◌≢◌, ◌||◌, ◌==◌, �
 ghost use Rattle.std.specs.List.{list_any};
 ghost use Rattle.std.specs.Option.{option_or};
 ghost use Rattle.std.specs.Str.{bytes_eq};
-ghost use Rattle.cm_groups.specs.Faults.{boundary_fault, boundary_faults, group_fault, group_faults, has_too_long, is_taken, is_too_many, lacks_boundary, leads_nowhere, leads_to_itself, leads_twice};
+ghost use Rattle.cm_groups.specs.Faults.{boundary_fault, boundary_faults, group_fault, group_faults, has_too_long, is_taken, is_too_many, lacks_boundary, leads_nowhere, leads_to_itself};
 ghost use Rattle.cm_groups.specs.Texts.{has_repeat, is_too_long};
 
 use crate::names::Names;

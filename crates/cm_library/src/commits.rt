@@ -1,8 +1,8 @@
 //! A change is committed to a library's log.
-ghost use Rattle.std.specs.Prelude.{◌≡◌, ◌≢◌, ◌+◌, ◌^◌, ◌≤◌, ℕ, List, length, true, None, Some, OnOk};
+ghost use Rattle.std.specs.Prelude.{◌≡◌, ◌+◌, ◌^◌, ◌≤◌, length, true, None, Some, OnOk};
 ghost use Rattle.std.specs.Option.{ForSome};
 ghost use Rattle.cm_base.specs.Causes.{HasCause};
-ghost use Rattle.cm_disk.specs.Disk.{File, Files};
+ghost use Rattle.cm_disk.specs.Disk.{Files};
 ghost use Rattle.cm_log.specs.Settled.{shelf_of, place_of, end_of, is_settled, IsSettled, Adds};
 ghost use Rattle.cm_pkglib.specs.Changes.{spelled};
 

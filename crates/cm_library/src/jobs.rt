@@ -1,10 +1,9 @@
 //! Jobs begin and are finished.
-ghost use Rattle.std.specs.Prelude.{◌≡◌, ◌≢◌, ◌+◌, ◌^◌, ◌<◌, ◌≤◌, ℕ, List, length, true, Some, None, OnOk, IfOk, IfErr, IsErrOf};
+ghost use Rattle.std.specs.Prelude.{◌≡◌, ◌≢◌, ◌+◌, ◌^◌, ◌<◌, ◌≤◌, length, true, Some, None, OnOk, IfOk, IfErr, IsErrOf};
 ghost use Rattle.std.specs.Option.{ForSome};
-ghost use Rattle.std.specs.Result.{result_err};
 ghost use Rattle.cm_base.specs.Causes.{Rose, HasCause};
 ghost use Rattle.cm_base.specs.Names.{is_package_id};
-ghost use Rattle.cm_disk.specs.Disk.{File, Files, put};
+ghost use Rattle.cm_disk.specs.Disk.{Files, put};
 ghost use Rattle.cm_log.specs.declared.shelf.Shelf.TheVariants.{PkgLib};
 ghost use Rattle.cm_log.specs.Settled.{shelf_of, place_of, end_of as log_end, is_settled, IsSettled, Adds};
 ghost use Rattle.cm_pkglib.specs.Changes.{spelled};

@@ -1,5 +1,5 @@
 //! What is kept in memory changes, and tells what it is.
-ghost use Rattle.std.specs.Prelude.{◌≡◌, ◌+◌, ◌^◌, ◌<◌, ◌≤◌, None, List, ℕ, length, IfOk, OnErr, OnOk, vec_len, vec_capacity};
+ghost use Rattle.std.specs.Prelude.{◌≡◌, ◌+◌, ◌<◌, ◌≤◌, None, List, ℕ, length, IfOk, OnErr, OnOk, vec_len, vec_capacity};
 ghost use Rattle.std.specs.Result.{result_err};
 ghost use Rattle.cm_pkglib.specs.declared.change.Change.TheVariants.{Done as done_change};
 ghost use Rattle.cm_pkglib.specs.Rows.{last_of, fault_of, opened_fault};

@@ -2,7 +2,7 @@
 ghost use Rattle.std.specs.Prelude.{◌≡◌, ◌⊎◌, ◌≤◌, None, Some, IfOk, IfErr, IsErrOf};
 ghost use Rattle.std.specs.Option.{ForSome};
 ghost use Rattle.cm_base.specs.Causes.{Rose};
-ghost use Rattle.cm_disk.specs.Disk.{Files, LeavesNoMore};
+ghost use Rattle.cm_disk.specs.Disk.{LeavesNoMore};
 ghost use Rattle.cm_library.specs.Loads.{TakesOne, TakesAll, TakesJobs, Loads};
 
 use crate::fault::OpenFault;

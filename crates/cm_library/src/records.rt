@@ -1,8 +1,8 @@
 //! The records of a library's log are read.
-ghost use Rattle.std.specs.Prelude.{◌≡◌, ◌⊎◌, ◌≤◌, ℕ, List, true, false, Some, None, Ok, IfOk, IfErr, OnOk, IsErrOf};
+ghost use Rattle.std.specs.Prelude.{◌≡◌, ◌≤◌, ℕ, List, true, false, Some, None, Ok, IfOk, IfErr, OnOk, IsErrOf};
 ghost use Rattle.std.specs.Option.{ForSome};
 ghost use Rattle.cm_base.specs.Causes.{Rose};
-ghost use Rattle.cm_disk.specs.Disk.{File, Files, LeavesNoMore};
+ghost use Rattle.cm_disk.specs.Disk.{LeavesNoMore};
 ghost use Rattle.cm_log.specs.declared.shelf.Shelf.TheVariants.{PkgLib};
 ghost use Rattle.cm_log.specs.declared.shelf.Side.TheVariants.{First};
 ghost use Rattle.cm_log.specs.Shelves.{log_place};

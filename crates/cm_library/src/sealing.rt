@@ -1,9 +1,9 @@
 //! A file is kept under its hash.
-ghost use Rattle.std.specs.Prelude.{◌≡◌, ◌≢◌, ◌^◌, ◌<◌, ◌≤◌, length, List, ℕ, Some, None, OnOk};
+ghost use Rattle.std.specs.Prelude.{◌≡◌, ◌≢◌, ◌^◌, ◌<◌, length, List, ℕ, Some, None, OnOk};
 ghost use Rattle.std.specs.Option.{ForSome};
 ghost use Rattle.sha2.specs.Sha256.{sha256};
 ghost use Rattle.cm_base.specs.Causes.{HasCause};
-ghost use Rattle.cm_disk.specs.Disk.{File, Files, put as put_at};
+ghost use Rattle.cm_disk.specs.Disk.{File, put as put_at};
 ghost use Rattle.cm_filelib.specs.Places.{file_place};
 
 use cm_base::Hash;

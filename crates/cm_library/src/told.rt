@@ -1,6 +1,6 @@
 //! The rows that a library tells are made and changed.
-ghost use Rattle.std.specs.Prelude.{◌≡◌, ◌+◌, ◌^◌, ◌<◌, ◌≤◌, ◌==◌, ◌++◌, ◌∷◌, [], ℕ, length, take, drop, map, find, filter, not, true, IsSome, vec_len, vec_capacity, IfOk, OnOk};
-ghost use Rattle.cm_library.specs.Contents.{held_with, job_held_with, manifest_in_map, told_before, with_told, finished_row, with_told_done};
+ghost use Rattle.std.specs.Prelude.{◌≡◌, ◌+◌, ◌^◌, ◌<◌, ◌≤◌, ◌==◌, ◌++◌, ◌∷◌, length, take, drop, map, find, filter, not, IsSome, vec_capacity, IfOk};
+ghost use Rattle.cm_library.specs.Contents.{held_with, job_held_with, manifest_in_map, told_before, with_told, with_told_done};
 ghost use Rattle.cm_library.specs.State.{bytes_of, version_row, job_row};
 ghost use Rattle.cm_library.specs.declared.row.JobRow.{JobRow as told_job_row};
 

@@ -2,7 +2,7 @@
 //!
 //! Group `g` of 500 has the boundaries 4 g to 4 g + 3. Every 500th boundary is a site, and boundary `b` else a range of
 //! 2,048 addresses from 4 b on. So many groups hold each computer.
-ghost use Rattle.std.specs.Prelude.{◌≡◌, ◌<◌, All, IfOk};
+ghost use Rattle.std.specs.Prelude.{◌<◌, All, IfOk};
 ghost use Rattle.cm_net.specs.Boundaries.{IsSound};
 ghost use Rattle.cm_locate.specs.Asks.{IsPrefix};
 
@@ -46,7 +46,9 @@ fn version(number: u32) -> Result<Version, Fail> {
     Ok(Version::new(number).ok_or("version")?)
 }
 
-/// What the numbers of groups, points and peers mean.
+// What the numbers of groups, points and peers mean, here and below.
+
+/// The options of a group.
 fn options_of(group: u32) -> Options {
     Options {
         peers: group % 4 != 0,

@@ -1,5 +1,5 @@
 //! The command `add`.
-ghost use Rattle.std.specs.Prelude.{◌≡◌, ◌<◌, ◌≤◌, length, None, Some};
+ghost use Rattle.std.specs.Prelude.{◌≡◌, ◌<◌, None, Some};
 ghost use Rattle.std.specs.Option.{ForSome};
 ghost use Rattle.cm_pkglib.specs.Rows.{last_of};
 ghost use Rattle.cm_tree.specs.GatheredFiles.{files_of};

@@ -1,5 +1,5 @@
 //! The command `init`.
-ghost use Rattle.std.specs.Prelude.{◌≡◌, ◌∷◌, [], List, ℕ};
+ghost use Rattle.std.specs.Prelude.{◌≡◌, []};
 ghost use Rattle.cm_top.specs.Bays.{seen, seen_bay, site, SameBut, IsSiteAlone};
 ghost use Rattle.cm_top.specs.Machine.{no_bay, step_init};
 ghost use Rattle.cm_top.specs.Runs.{EndsOn, EndsBy, Sourced};

@@ -1,5 +1,5 @@
 //! The command `list`.
-ghost use Rattle.std.specs.Prelude.{◌≡◌, ◌⊎◌, IfOk, List, ℕ};
+ghost use Rattle.std.specs.Prelude.{◌≡◌, ◌⊎◌, IfOk, List};
 ghost use Rattle.cm_library.specs.Open.{state_of};
 ghost use Rattle.cm_library.specs.State.{version_rows, job_rows};
 ghost use Rattle.cm_top.specs.Bays.{seen, seen_disk, site, SameBut, IsSiteAlone};

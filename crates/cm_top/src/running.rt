@@ -1,5 +1,5 @@
 //! One command.
-ghost use Rattle.std.specs.Prelude.{◌≡◌, ◌<◌, ◌^◌, List, ℕ};
+ghost use Rattle.std.specs.Prelude.{◌<◌, ◌^◌, List};
 ghost use Rattle.cm_top.specs.Bays.{seen, site, SameBut, IsSiteAlone};
 ghost use Rattle.cm_top.specs.Causes.{HasCauses};
 ghost use Rattle.cm_top.specs.Runs.{Ends, RunMeets, sunk, sourced};

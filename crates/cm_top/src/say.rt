@@ -1,6 +1,5 @@
 //! Lines of text.
 ghost use Rattle.std.specs.Prelude.{◌≡◌, ◌++◌, OnOk, map};
-ghost use Rattle.std.specs.Fmt.{decimal};
 ghost use Rattle.cm_top.specs.Texts.{spoken};
 
 use std::alloc::AllocError;

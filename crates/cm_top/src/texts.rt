@@ -1,7 +1,7 @@
 //! The text and the status of how a run ends.
 ghost use Rattle.std.specs.Prelude.{◌≡◌, ◌++◌, OnOk, IfOk};
 ghost use Rattle.std.specs.List.{flat_map};
-ghost use Rattle.cm_top.specs.Texts.{spoken, usage_words, refusal_words, version_line, job_line, reply_text, text, usage_status, reply_status, status};
+ghost use Rattle.cm_top.specs.Texts.{spoken, usage_words, version_line, job_line, reply_text, text, status};
 
 use crate::say::say;
 use crate::{Ended, Refusal, Reply, WordsFault};

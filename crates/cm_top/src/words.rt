@@ -1,5 +1,5 @@
 //! The words of the command line are read.
-ghost use Rattle.std.specs.Prelude.{◌≡◌, ◌≢◌, ◌+◌, ◌<◌, ◌^◌, length, IfOk, IfErr, Ok, Err};
+ghost use Rattle.std.specs.Prelude.{◌≡◌, ◌≢◌, ◌+◌, ◌<◌, IfOk, IfErr, Ok, Err};
 ghost use Rattle.cm_top.specs.Words.{texts, is_option, is_end, has_option, values_of, only_value, names_from, read_init, read_add, read_list, read_line};
 ghost use Rattle.cm_top.specs.declared.fault.WordsFault.TheVariants.{Memory};
 

@@ -5,7 +5,7 @@ ghost use Rattle.toml.specs.View.{table_view, view};
 ghost use Rattle.cm_topo.specs.FirstPass.{AreFewGroups, AreFewServers, AreRelationsRight, entries_faults, entry_troubles, first_pass, groups_pass, key_of, limit_of, part_faults, relations_faults, servers_pass};
 ghost use Rattle.cm_topo.specs.Keys.{code_said, items_of};
 ghost use Rattle.cm_topo.specs.Tables.{default_troubles};
-ghost use Rattle.cm_topo.specs.Troubles.{each_entry, fault_at, first, wrong};
+ghost use Rattle.cm_topo.specs.Troubles.{fault_at, first, wrong};
 
 use crate::document::{items_at, items_or_none};
 use crate::keys::code_at;

@@ -1,7 +1,6 @@
 //! The second pass: the names that refer to others.
 ghost use Rattle.std.specs.Prelude.{◌≡◌, ◌+◌, ◌++◌, ◌≤◌, IfOk, length, map, take};
-ghost use Rattle.std.specs.List.{flat_map, list_any};
-ghost use Rattle.std.specs.Str.{bytes_eq};
+ghost use Rattle.std.specs.List.{flat_map};
 ghost use Rattle.cm_groups.specs.Texts.{group_names, names_of_rows};
 ghost use Rattle.cm_topo.specs.Rules.{no_such_boundary, no_such_point};
 ghost use Rattle.cm_topo.specs.SecondPass.{IsFew, boundary_refers, group_refers, group_relations_refer, groups_refer, leads_to, missing, peer_names, peer_refers, point_group_names, point_group_refers, point_names, point_refers, relation_refers, second_pass, servers_refer, source_refers};

@@ -1,5 +1,5 @@
 //! Names of servers that are found by a map.
-ghost use Rattle.std.specs.Prelude.{◌≡◌, ◌<◌, IfOk, IfSome, length};
+ghost use Rattle.std.specs.Prelude.{◌≡◌, ◌<◌, IfOk};
 ghost use Rattle.cm_groups.specs.Names.{HasPlaces, is_among, is_before, place_of};
 
 use cm_base::{Memory, ServerName};

@@ -4,7 +4,7 @@ ghost use Rattle.std.specs.List.{flat_map};
 ghost use Rattle.toml.specs.Data.{get_member};
 ghost use Rattle.toml.specs.View.{table_view, view};
 ghost use Rattle.cm_topo.specs.Keys.{items_said, labels_troubles, list_troubles, names_troubles};
-ghost use Rattle.cm_topo.specs.Tables.{boundary_troubles, default_troubles, data_troubles, group_relations_troubles, group_troubles, options_troubles, peer_troubles, point_group_troubles, point_troubles, relation_data_troubles, relation_entry_troubles, relation_troubles, relations_of_troubles, relations_troubles, source_data_troubles, source_troubles, sources_said_troubles, sources_troubles, table_troubles};
+ghost use Rattle.cm_topo.specs.Tables.{boundary_troubles, default_troubles, data_troubles, group_relations_troubles, group_troubles, options_troubles, peer_troubles, point_group_troubles, point_troubles, relation_entry_troubles, relation_troubles, relations_of_troubles, relations_troubles, source_data_troubles, source_troubles, sources_said_troubles, sources_troubles, table_troubles};
 ghost use Rattle.cm_topo.specs.Troubles.{first};
 
 use crate::document::{items_at, value_at};
