@@ -1,5 +1,5 @@
 //! Fixed fields from the front of some bytes.
-ghost use Rattle.std.specs.Prelude.{◌≡◌, ◌+◌, ◌≤◌, length, take, option_map};
+ghost use Rattle.std.specs.Prelude.{◌≡◌, ◌+◌, ◌≤◌, length, option_map};
 ghost use Rattle.std.specs.Int.{w8, w16, w32, w64};
 
 /// Reads fixed fields from the front of some bytes. Numbers are little-endian.

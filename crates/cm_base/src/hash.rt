@@ -1,8 +1,8 @@
 //! A SHA-256 (FIPS 180-4) of some bytes.
-ghost use Rattle.std.specs.Prelude.{◌≡◌, ◌==◌, ◌&&◌, length, option_map, Option};
+ghost use Rattle.std.specs.Prelude.{◌≡◌, option_map, Option};
 ghost use Rattle.std.specs.List.{list_all};
 ghost use Rattle.hex.specs.Hex.{encode_lower};
-ghost use Rattle.cm_base.specs.Names.{is_hash_text, is_lower_hex};
+ghost use Rattle.cm_base.specs.Names.{is_lower_hex};
 ghost use Rattle.cm_base.specs.Hashes.{hash_of_text};
 
 use hex::FromHex;

@@ -1,5 +1,5 @@
 //! The name of a boundary, a boundary group or a point group.
-ghost use Rattle.std.specs.Prelude.{◌≡◌, ◌&&◌, nat_le, length};
+ghost use Rattle.std.specs.Prelude.{◌≡◌};
 ghost use Rattle.std.specs.List.{list_all};
 ghost use Rattle.cm_base.specs.Names.{is_label, is_printable, text_if};
 

@@ -1,5 +1,5 @@
 //! A source in memory.
-ghost use Rattle.std.specs.Prelude.{◌≡◌, ◌+◌, ◌-◌, ◌^◌, ◌≤◌, ◌<◌, ◌↔◌, min, length, drop, Some, IfOk, OnErr, IsErr, true};
+ghost use Rattle.std.specs.Prelude.{◌≡◌, ◌+◌, ◌-◌, ◌≤◌, ◌<◌, length, Some, IfOk, OnErr};
 ghost use Rattle.cm_base.specs.Causes.{HasCause};
 ghost use Rattle.cm_base.specs.InMemory.{counters_of_source, left_of, fresh, FailsExactly};
 ghost use Rattle.cm_base.specs.Streams.{Gives, nothing_beside};

@@ -1,5 +1,5 @@
 //! The id of a package.
-ghost use Rattle.std.specs.Prelude.{◌≡◌, ◌==◌, ◌&&◌, length, take, drop, true};
+ghost use Rattle.std.specs.Prelude.{◌≡◌, length, true};
 ghost use Rattle.std.specs.List.{list_all};
 ghost use Rattle.cm_base.specs.Names.{is_package_id, is_code_byte, is_upper_hex, text_if};
 

@@ -1,5 +1,5 @@
 //! Numbers in decimal, with no memory.
-ghost use Rattle.std.specs.Prelude.{◌≡◌, ◌≤◌, ◌<◌, drop};
+ghost use Rattle.std.specs.Prelude.{◌≡◌, ◌<◌, drop};
 ghost use Rattle.std.specs.Fmt.{decimal};
 
 /// Writes a number in decimal behind the front of the buffer, and tells where it begins.

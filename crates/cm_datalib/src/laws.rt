@@ -1,14 +1,11 @@
 //! The laws of stored manifests.
-ghost use Rattle.std.specs.Prelude.{◌≡◌, ◌<◌, ◌≤◌, List, ℕ, length, Some, Ok, true};
-ghost use Rattle.hex.specs.Hex.{IsBytes};
+ghost use Rattle.std.specs.Prelude.{◌≡◌, List, ℕ, length, Some, Ok, true};
 ghost use Rattle.sha2.specs.Sha256.{sha256};
 ghost use Rattle.cm_base.specs.declared.hash.Hash.{Hash as hash_value};
-ghost use Rattle.cm_disk.specs.Disk.{is_above};
 ghost use Rattle.cm_tree.specs.declared.entry.Entry.{Entry as entry_value};
 ghost use Rattle.cm_tree.specs.Manifests.{IsManifest, spelling};
 ghost use Rattle.cm_datalib.specs.Loads.{loaded};
 ghost use Rattle.cm_datalib.specs.Places.{manifest_place, is_version, version_named};
-ghost use Rattle.cm_disk.specs.Ranks.{ahead};
 
 /// The place of a manifest names its version, and no other place does.
 pub fn a_place_names_its_version()

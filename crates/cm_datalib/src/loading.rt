@@ -1,11 +1,11 @@
 //! A stored manifest is loaded.
-ghost use Rattle.std.specs.Prelude.{◌≡◌, ◌≢◌, ◌≤◌, ◌<◌, ◌^◌, ℕ, List, length, take, Some, IfOk, IfErr, IsErrOf, option_map};
+ghost use Rattle.std.specs.Prelude.{◌≡◌, ◌≢◌, ◌≤◌, ◌<◌, ℕ, length, take, Some, IfOk, IfErr, IsErrOf, option_map};
 ghost use Rattle.std.specs.Option.{ForSome};
 ghost use Rattle.sha2.specs.Sha256.{sha256};
 ghost use Rattle.cm_base.specs.Causes.{Rose, HasCause};
 ghost use Rattle.cm_base.specs.declared.hash.Hash.{Hash as hash_value};
-ghost use Rattle.cm_disk.specs.Disk.{File, Files, IsImage, LeavesNoMore, LeavesOnly};
-ghost use Rattle.cm_tree.specs.Manifests.{spelling, IsManifest};
+ghost use Rattle.cm_disk.specs.Disk.{IsImage, LeavesNoMore, LeavesOnly};
+ghost use Rattle.cm_tree.specs.Manifests.{spelling};
 ghost use Rattle.cm_datalib.specs.Places.{manifest_place};
 ghost use Rattle.cm_datalib.specs.Loads.{loaded, Answers, bad_manifest};
 

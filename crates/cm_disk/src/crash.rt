@@ -1,5 +1,5 @@
 //! What a stop leaves of a disk in memory.
-ghost use Rattle.std.specs.Prelude.{◌≡◌, ◌≤◌, [], List, ℕ, length, Some, None, false, IfOk, OnOk, if◌then◌else◌, nat_le, ◌&&◌};
+ghost use Rattle.std.specs.Prelude.{◌≡◌, ◌≤◌, [], List, ℕ, Some, None, false, IfOk, OnOk, if◌then◌else◌, nat_le, ◌&&◌};
 ghost use Rattle.std.specs.Str.{bytes_eq};
 ghost use Rattle.cm_disk.specs.Disk.{File, IsImage};
 ghost use Rattle.cm_disk.specs.Images.{is_before, is_touched, at_rest};

@@ -4,7 +4,7 @@ ghost use Rattle.std.specs.Option.{ForSome};
 ghost use Rattle.sha2.specs.Sha256.{sha256};
 ghost use Rattle.cm_base.specs.Causes.{HasCause};
 ghost use Rattle.cm_base.specs.Fed.{WasFed, count_of};
-ghost use Rattle.cm_disk.specs.Disk.{Files, IsImage, LeavesNoMore, LeavesOnly, Elapses, bytes_of};
+ghost use Rattle.cm_disk.specs.Disk.{IsImage, LeavesNoMore, LeavesOnly, Elapses, bytes_of};
 
 use crate::{Disk, DiskFault};
 use cm_base::{FileHasher, Hash, Place};

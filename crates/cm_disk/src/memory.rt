@@ -1,6 +1,5 @@
 //! A disk in memory.
 ghost use Rattle.std.specs.Prelude.{◌≡◌, List, ℕ};
-ghost use Rattle.std.proofs.Props.{props};
 ghost use Rattle.cm_disk.specs.Stands.{stand_after, IsSmall};
 ghost use Rattle.cm_disk.specs.Slots.{stand_in, same_prop};
 

@@ -1,5 +1,5 @@
 //! A disk in memory is a disk.
-ghost use Rattle.std.specs.Prelude.{◌≡◌, ◌⊎◌, ◌+◌, ◌-◌, ◌^◌, ◌<◌, ◌≤◌, List, ℕ, min, length, take, drop, true, Some, IsSome, IfOk, OnOk, IfSome, option_map};
+ghost use Rattle.std.specs.Prelude.{◌≡◌, ◌⊎◌, ◌+◌, ◌-◌, ◌^◌, ◌<◌, ◌≤◌, min, length, take, drop, true, Some, IsSome, IfOk, OnOk, IfSome, option_map};
 ghost use Rattle.std.specs.Option.{ForSome, option_copied};
 ghost use Rattle.cm_base.specs.Causes.{HasCause};
 ghost use Rattle.cm_disk.specs.Disk.{bytes_of, written, shortened, removed, Does, Reads, LeavesNoMore, Touches, IsThere, Only, Elapses, is_above, IsNext};

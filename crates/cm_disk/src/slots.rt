@@ -1,6 +1,6 @@
 //! Work on what a disk in memory keeps of one place.
-ghost use Rattle.std.specs.Prelude.{◌≡◌, ◌+◌, ◌^◌, ◌≤◌, ◌∷◌, ◌++◌, [], true, false, if◌then◌else◌, length, take, Some, IfOk, IfErr};
-ghost use Rattle.cm_disk.specs.Disk.{bytes_of, overwritten};
+ghost use Rattle.std.specs.Prelude.{◌≡◌, ◌+◌, ◌^◌, ◌≤◌, ◌∷◌, true, false, if◌then◌else◌, length, take, Some, IfOk, IfErr};
+ghost use Rattle.cm_disk.specs.Disk.{overwritten};
 ghost use Rattle.cm_disk.specs.Stands.{absent, span_of_write, worked};
 ghost use Rattle.cm_disk.specs.Slots.{file_of, stand_of, stand_of_option, CanDo};
 

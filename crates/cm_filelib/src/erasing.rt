@@ -1,5 +1,5 @@
 //! A file is erased.
-ghost use Rattle.std.specs.Prelude.{◌≡◌, ◌≢◌, None, List, ℕ, OnOk, IsSome};
+ghost use Rattle.std.specs.Prelude.{◌≢◌, None, List, ℕ, OnOk};
 ghost use Rattle.std.specs.Option.{ForSome};
 ghost use Rattle.cm_base.specs.Causes.{HasCause};
 ghost use Rattle.cm_disk.specs.Disk.{File, Files, removed, Does, Only, LeavesOnly};

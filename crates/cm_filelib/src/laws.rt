@@ -1,9 +1,7 @@
 //! The laws of the places of files.
-ghost use Rattle.std.specs.Prelude.{◌≡◌, ◌<◌, ◌≤◌, List, ℕ, length, Some, true};
+ghost use Rattle.std.specs.Prelude.{◌≡◌, List, ℕ, length, Some};
 ghost use Rattle.hex.specs.Hex.{IsBytes};
-ghost use Rattle.cm_disk.specs.Disk.{is_above};
 ghost use Rattle.cm_filelib.specs.Places.{file_place, hash_named};
-ghost use Rattle.cm_disk.specs.Ranks.{ahead};
 
 /// The place of a file names its hash, and no other place does.
 pub fn a_place_names_its_hash()

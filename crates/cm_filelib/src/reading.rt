@@ -2,7 +2,7 @@
 ghost use Rattle.std.specs.Prelude.{◌≡◌, ◌≤◌, length, is_some, IfOk, IfSome};
 ghost use Rattle.std.specs.Option.{ForSome};
 ghost use Rattle.cm_base.specs.Causes.{HasCause};
-ghost use Rattle.cm_disk.specs.Disk.{Files, Reads, IsImage, LeavesNoMore, LeavesOnly};
+ghost use Rattle.cm_disk.specs.Disk.{Reads, IsImage, LeavesNoMore, LeavesOnly};
 ghost use Rattle.cm_filelib.specs.Places.{file_place};
 
 use crate::places::file_at;

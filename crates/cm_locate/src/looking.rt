@@ -1,5 +1,5 @@
 //! Looking a client up among the groups.
-ghost use Rattle.std.specs.Prelude.{◌≡◌, ◌<◌, ◌==◌, All, IfOk, length, filter};
+ghost use Rattle.std.specs.Prelude.{◌≡◌, ◌<◌, ◌==◌, All, IfOk, length};
 ghost use Rattle.cm_groups.specs.Current.{IsThere};
 ghost use Rattle.cm_locate.specs.Asks.{IsPrefix};
 ghost use Rattle.cm_locate.specs.Clients.{IsClient};

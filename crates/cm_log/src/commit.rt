@@ -1,5 +1,5 @@
 //! A record is written behind the closed gate, and then the gate is opened.
-ghost use Rattle.std.specs.Prelude.{◌≡◌, ◌≢◌, ◌⊎◌, ◌+◌, ◌^◌, ◌≤◌, ◌++◌, [], ◌∷◌, List, ℕ, length, take, Some, None, OnOk, OnErr};
+ghost use Rattle.std.specs.Prelude.{◌≡◌, ◌≢◌, ◌+◌, ◌^◌, ◌≤◌, ◌++◌, [], ◌∷◌, List, ℕ, length, take, Some, None, OnOk};
 ghost use Rattle.std.specs.Option.{ForSome};
 ghost use Rattle.cm_base.specs.Causes.{HasCause};
 ghost use Rattle.cm_disk.specs.Disk.{File, Files, Only, LeavesOnly};

@@ -1,5 +1,5 @@
 //! Records are added.
-ghost use Rattle.std.specs.Prelude.{◌≡◌, ◌≢◌, ◌⊎◌, ◌+◌, ◌^◌, ◌<◌, ◌≤◌, ◌++◌, [], ◌∷◌, List, ℕ, length, Some, true, false, if◌then◌else◌, Ok, slice_index, ◌==◌, IsErrOf, OnOk, OnErr, IfOk};
+ghost use Rattle.std.specs.Prelude.{◌≡◌, ◌≢◌, ◌+◌, ◌^◌, ◌<◌, ◌≤◌, ◌++◌, [], ◌∷◌, List, ℕ, length, Some, true, false, if◌then◌else◌, Ok, slice_index, ◌==◌, IsErrOf, OnOk, OnErr, IfOk};
 ghost use Rattle.std.specs.Option.{ForSome};
 ghost use Rattle.cm_base.specs.Causes.{Rose, HasCause};
 ghost use Rattle.cm_disk.specs.Disk.{File, Files, bytes_of, IsImage, LeavesNoMore, LeavesOnly};

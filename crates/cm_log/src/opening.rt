@@ -2,7 +2,7 @@
 ghost use Rattle.std.specs.Prelude.{◌≡◌, ◌≤◌, List, ℕ, OnOk, IfOk, IsErrOf};
 ghost use Rattle.std.specs.Option.{ForSome};
 ghost use Rattle.cm_base.specs.Causes.{Rose, HasCause};
-ghost use Rattle.cm_disk.specs.Disk.{Files, IsImage, LeavesNoMore, LeavesOnly};
+ghost use Rattle.cm_disk.specs.Disk.{IsImage, LeavesNoMore, LeavesOnly};
 ghost use Rattle.cm_log.specs.Logs.{NoLog, Unread, Live, head_at, shelved, IsLook};
 ghost use Rattle.cm_log.specs.Settled.{reader_shelf, reader_place, rest_of, IsReading, Rests};
 

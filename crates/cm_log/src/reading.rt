@@ -1,9 +1,9 @@
 //! Records are read one after another.
-ghost use Rattle.std.specs.Prelude.{◌≡◌, ◌≤◌, List, ℕ, [], ◌∷◌, true, false, take, IfOk, IsErrOf, OnErr, IfSome, IfNone};
+ghost use Rattle.std.specs.Prelude.{◌≡◌, ◌≤◌, List, ℕ, [], ◌∷◌, true, take, IfOk, IsErrOf, OnErr, IfSome, IfNone};
 ghost use Rattle.std.specs.Option.{ForSome};
 ghost use Rattle.cm_base.specs.Causes.{Rose};
 ghost use Rattle.cm_disk.specs.Disk.{Files, IsImage, LeavesNoMore, LeavesOnly};
-ghost use Rattle.cm_log.specs.Logs.{Entry, Closed, Broken, ended, following};
+ghost use Rattle.cm_log.specs.Logs.{Closed, Broken, ended, following};
 ghost use Rattle.cm_log.specs.Settled.{reader_shelf, reader_place, reader_at, has_ended, rest_of, shelf_of, place_of, end_of, is_settled, IsAt, IsReading, EndsIn};
 
 use crate::faults::LogFault;

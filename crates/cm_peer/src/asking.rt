@@ -1,5 +1,5 @@
 //! Asking one source.
-ghost use Rattle.std.specs.Prelude.{◌≡◌, ◌≤◌, ◌∷◌, [], MatchOption};
+ghost use Rattle.std.specs.Prelude.{◌≤◌, ◌∷◌, [], MatchOption};
 ghost use Rattle.cm_peer.specs.Links.{IsSameTest, WasAsked, RoseBy};
 ghost use Rattle.cm_peer.specs.Walks.{IsWhy, link_faults};
 

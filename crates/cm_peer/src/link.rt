@@ -1,5 +1,5 @@
 //! The way from a client to its sources.
-ghost use Rattle.std.specs.Prelude.{◌≡◌, ◌∷◌, [], ℕ, List, Option, None, IfOk, ⊤};
+ghost use Rattle.std.specs.Prelude.{◌∷◌, [], ℕ, List, Option, None, IfOk, ⊤};
 ghost use Rattle.cm_base.specs.Causes.{HasCause};
 ghost use Rattle.cm_peer.specs.declared.offers.Want.{Want};
 ghost use Rattle.cm_peer.specs.declared.offers.Answer.{Answer};

@@ -1,5 +1,5 @@
 //! The walk of a client over its sources.
-ghost use Rattle.std.specs.Prelude.{◌≡◌, ◌<◌, ◌≤◌, ◌^◌, ℕ, length, take, IfOk, OnErr};
+ghost use Rattle.std.specs.Prelude.{◌<◌, ◌≤◌, ◌^◌, ℕ, length, take, IfOk, OnErr};
 ghost use Rattle.cm_peer.specs.Links.{IsSameTest, WasAsked, RoseBy};
 ghost use Rattle.cm_peer.specs.Walks.{IsWalk, asked_in, link_count};
 

@@ -1,5 +1,5 @@
 //! The rows of a library, and the changes that they take.
-ghost use Rattle.std.specs.Prelude.{◌≡◌, ◌+◌, ◌-◌, ◌^◌, ◌<◌, ◌≤◌, ◌∷◌, [], false, None, OnOk, OnErr, IsOk, option_map};
+ghost use Rattle.std.specs.Prelude.{◌≡◌, ◌+◌, ◌-◌, ◌^◌, ◌<◌, false, None, OnOk, OnErr, IsOk};
 ghost use Rattle.std.specs.Result.{result_err};
 ghost use Rattle.cm_pkglib.specs.declared.change.Change.TheVariants.{Opened, Done, Dropped, Removed};
 ghost use Rattle.cm_pkglib.specs.Rows.{no_rows, fault_of, opened_fault, last_of, all_entries, after, is_opened};

@@ -1,8 +1,6 @@
 //! A tree in memory.
-ghost use Rattle.std.specs.Prelude.{◌≡◌, ◌+◌, ◌^◌, ◌<◌, ◌≤◌, ℕ, List, [], ◌∷◌, ◌++◌, length, Option, Some, None, IfOk, IfErr, IfSome, OnOk, OnErr, IsErrOf};
-ghost use Rattle.std.specs.Option.{ForSome};
+ghost use Rattle.std.specs.Prelude.{◌≡◌, ◌^◌, ◌<◌, ◌≤◌, List, length, Some, None, IfOk, IfErr, OnOk, OnErr, IsErrOf};
 ghost use Rattle.cm_base.specs.Causes.{Rose};
-ghost use Rattle.cm_tree.specs.declared.folder.FolderFault.{FolderFault as folder_fault};
 ghost use Rattle.cm_tree.specs.Trees.{File, IsTree, entry_of, manifest_of};
 ghost use Rattle.cm_tree.specs.GatheredFiles.{file_of, files_of};
 ghost use Rattle.cm_tree.specs.Folders.{Tells, WasRead, MayBeRead};

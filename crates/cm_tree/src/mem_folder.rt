@@ -1,5 +1,5 @@
 //! A folder in memory.
-ghost use Rattle.std.specs.Prelude.{◌≡◌, true, map, option_map, slice_get};
+ghost use Rattle.std.specs.Prelude.{◌≡◌, true, map};
 ghost use Rattle.cm_tree.specs.Paths.{is_rising};
 
 use crate::mem_file::MemFile;

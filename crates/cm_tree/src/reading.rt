@@ -1,5 +1,5 @@
 //! Entries from bytes.
-ghost use Rattle.std.specs.Prelude.{◌≡◌, ◌+◌, ◌*◌, ◌^◌, ◌<◌, ◌≤◌, ◌≢◌, [], ◌∷◌, ◌++◌, length, IfOk};
+ghost use Rattle.std.specs.Prelude.{◌≡◌, ◌+◌, ◌*◌, ◌^◌, ◌<◌, ◌≤◌, [], ◌∷◌, ◌++◌, length, IfOk};
 ghost use Rattle.std.specs.Int.{w8, w32};
 ghost use Rattle.cm_tree.specs.Manifests.{paths_of};
 ghost use Rattle.cm_tree.specs.Taking.{HasTaken};

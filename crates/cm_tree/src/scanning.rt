@@ -1,5 +1,5 @@
 //! The manifest of a folder.
-ghost use Rattle.std.specs.Prelude.{◌≡◌, ◌<◌, ◌≤◌, List, length, IfOk, IfErr, OnOk, OnErr, IsErrOf};
+ghost use Rattle.std.specs.Prelude.{◌<◌, ◌≤◌, List, length, IfOk, IfErr, OnOk, OnErr, IsErrOf};
 ghost use Rattle.cm_base.specs.Causes.{Rose};
 ghost use Rattle.cm_tree.specs.Trees.{File};
 ghost use Rattle.cm_tree.specs.Folders.{Tells, WasRead, MayBeRead};
