@@ -4,7 +4,6 @@ ghost use Rattle.cm_net.specs.Boundaries.{IsSound};
 ghost use Rattle.cm_groups.specs.Faults.{IsFirst, first_fault};
 ghost use Rattle.cm_groups.specs.Groups.{groups_of};
 ghost use Rattle.cm_groups.specs.Rows.{AreGroups};
-ghost use Rattle.cm_groups.specs.Texts.{group_names, names_of_rows};
 
 use crate::checks::first_fault;
 use crate::group::Group;
@@ -13,34 +12,7 @@ use crate::names::Names;
 use crate::{GroupText, Groups, GroupsFault, SiteCode};
 use cm_base::{Label, Memory, ServerName};
 use cm_net::{Boundary, Index};
-use std::alloc::{AllocError, Global};
-
-/// The names of rows.
-fn labels_of(alloc: Global, rows: &[(Label, Boundary)]) -> Result<Vec<Label>, AllocError>
-    ensures { IfOk result (λ labels. labels.items ≡ names_of_rows rows.now) }
-{
-    rows.iter().map(|row| row.0).collect(alloc)
-}
-
-/// The names of the boundaries.
-fn boundary_names(alloc: Global, rows: &[(Label, Boundary)]) -> Result<Names, Memory>
-    ensures { IfOk result (λ names. names ≡ names_of_rows rows.now) }
-{
-    let labels = labels_of(alloc, rows)?;
-    Names::of(alloc, labels)
-}
-
-/// The names of all groups, the default one first.
-fn names_of_all(alloc: Global, code: SiteCode, texts: &[GroupText]) -> Result<Names, Memory>
-    ensures { IfOk result (λ names. names ≡ group_names code texts.now) }
-{
-    let mut names = Vec::new(alloc);
-    names.push(code.default_name())?;
-    for text in texts {
-        names.push(text.name)?;
-    }
-    Names::of(alloc, names)
-}
+use std::alloc::Global;
 
 impl Groups {
     /// These groups with their index.
@@ -50,7 +22,7 @@ impl Groups {
         ensures { IfOk result (λ made. made ≡ groups.items) }
     {
         let rows = rows_of(alloc, &groups)?;
-        let index = Index::build(alloc, &rows)?;
+        let index = Index::of_rows(alloc, rows)?;
         Ok(Groups { groups, index })
     }
 
@@ -70,8 +42,8 @@ impl Groups {
         ensures fault { IfErr result (IsFirst (first_fault code boundaries.items groups.items)) }
     {
         let rows = boundaries;
-        let names = boundary_names(alloc, &rows)?;
-        let group_names = names_of_all(alloc, code, &groups)?;
+        let names = Names::of_boundaries(alloc, &rows)?;
+        let group_names = Names::of_groups(alloc, code, &groups)?;
         if let Some(fault) = first_fault(&names, &group_names, &groups) {
             return Err(fault);
         }

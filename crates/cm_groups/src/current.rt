@@ -6,9 +6,8 @@ ghost use Rattle.cm_net.specs.Groups.{IsRisingOf, numbers_of};
 ghost use Rattle.cm_groups.specs.Current.{AreThose, IsThere, is_current};
 
 use crate::Groups;
-use crate::rising::rising;
 use cm_base::Memory;
-use cm_net::{Address, Index, SiteName, Steps};
+use cm_net::{Address, Index, SiteName, Steps, rising};
 use std::alloc::Global;
 use std::marker::Brand;
 use std::sync::ledger::{Blank, Ledger};

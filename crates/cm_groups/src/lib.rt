@@ -14,7 +14,6 @@ mod making;
 mod names;
 mod options;
 mod reach;
-mod rising;
 mod site_code;
 #[cfg(test)]
 mod tests;
@@ -24,5 +23,6 @@ pub use fault::GroupsFault;
 pub use group_text::GroupText;
 pub use groups::Groups;
 pub use laws::minutes_take_no_group_away;
+pub use names::Names;
 pub use options::Options;
 pub use site_code::SiteCode;

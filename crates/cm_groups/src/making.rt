@@ -1,5 +1,5 @@
 //! Groups from their texts, once these have no fault.
-ghost use Rattle.std.specs.Prelude.{◌≡◌, ◌≤◌, ◌∷◌, ◌++◌, IfOk, OnOk, length, map, All};
+ghost use Rattle.std.specs.Prelude.{◌≡◌, ◌≤◌, ◌∷◌, ◌++◌, IfOk, OnOk, length, map};
 ghost use Rattle.std.specs.List.{filter_map};
 ghost use Rattle.cm_groups.specs.Groups.{boundary_of, default_group, group_of, relation_of};
 ghost use Rattle.cm_groups.specs.Rows.{rows_from};

@@ -1,15 +1,18 @@
 //! Names that are found by a map.
 ghost use Rattle.std.specs.Prelude.{◌≡◌, ◌<◌, IfOk, IfSome, length};
 ghost use Rattle.cm_groups.specs.Names.{is_among, is_before, place_of, HasPlaces};
+ghost use Rattle.cm_groups.specs.Texts.{group_names, names_of_rows};
 
+use crate::{GroupText, SiteCode};
 use cm_base::{Label, Memory};
-use std::alloc::Global;
+use cm_net::Boundary;
+use std::alloc::{AllocError, Global};
 use std::collections::BTreeMap;
 use std::marker::Model;
 
 /// Names in order, with the first place of each. Contracts see the list of them.
 #[derive(Drop)]
-pub(crate) struct Names {
+pub struct Names {
     names: Vec<Label>,
     places: BTreeMap<Label, usize>,
 }
@@ -36,13 +39,40 @@ fn places_of(alloc: Global, names: &[Label]) -> Result<BTreeMap<Label, usize>, M
     Ok(places)
 }
 
+/// The names of rows.
+fn labels_of(alloc: Global, rows: &[(Label, Boundary)]) -> Result<Vec<Label>, AllocError>
+    ensures { IfOk result (λ labels. labels.items ≡ names_of_rows rows.now) }
+{
+    rows.iter().map(|row| row.0).collect(alloc)
+}
+
 impl Names {
-    /// These names.
-    pub(crate) fn of(alloc: Global, names: Vec<Label>) -> Result<Names, Memory>
+    /// These names. `Memory` where there is none for the map.
+    pub fn of(alloc: Global, names: Vec<Label>) -> Result<Names, Memory>
         ensures { IfOk result (λ made. made ≡ names.items) }
     {
         let places = places_of(alloc, &names)?;
         Ok(Names { names, places })
+    }
+
+    /// The names of the boundaries.
+    pub fn of_boundaries(alloc: Global, rows: &[(Label, Boundary)]) -> Result<Names, Memory>
+        ensures { IfOk result (λ names. names ≡ names_of_rows rows.now) }
+    {
+        let labels = labels_of(alloc, rows)?;
+        Names::of(alloc, labels)
+    }
+
+    /// The names of all groups, the default one first.
+    pub fn of_groups(alloc: Global, code: SiteCode, texts: &[GroupText]) -> Result<Names, Memory>
+        ensures { IfOk result (λ names. names ≡ group_names code texts.now) }
+    {
+        let mut names = Vec::new(alloc);
+        names.push(code.default_name())?;
+        for text in texts {
+            names.push(text.name)?;
+        }
+        Names::of(alloc, names)
     }
 
     /// The names in order.
@@ -61,14 +91,14 @@ impl Names {
     }
 
     /// Whether an entry has the name.
-    pub(crate) fn has(&self, name: &Label) -> bool
+    pub fn has(&self, name: &Label) -> bool
         ensures { result ≡ is_among self.now name.now }
     {
         self.place(name).is_some()
     }
 
     /// Whether an entry before that place has the name.
-    pub(crate) fn has_before(&self, end: usize, name: &Label) -> bool
+    pub fn has_before(&self, end: usize, name: &Label) -> bool
         ensures { result ≡ is_before self.now end name.now }
     {
         match self.place(name) {

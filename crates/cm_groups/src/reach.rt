@@ -7,9 +7,9 @@ ghost use Rattle.cm_groups.specs.Reach.{counts, has_relation, is_default_reached
 ghost use Rattle.cm_groups.specs.Targets.{all_targets, others, targets};
 
 use crate::group::Group;
-use crate::rising::rising;
 use crate::{Fallback, Groups};
 use cm_base::Memory;
+use cm_net::rising;
 use std::alloc::{AllocError, Global};
 
 /// The minutes of a relation to the default group that no text names.

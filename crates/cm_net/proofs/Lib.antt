@@ -1,3 +1,4 @@
+pub mod Added
 pub mod Apart
 pub mod BitTexts
 pub mod Bits
@@ -11,11 +12,13 @@ pub mod Named
 pub mod SixTexts
 pub mod OneMeaning
 pub mod OneReading
+pub mod Reach
 pub mod Reading
 pub mod Rewritten
 pub mod RightReading
+pub mod Sorting
 pub mod SiteTexts
 pub mod Spelled
 pub mod Spread
-pub mod Turns
+pub mod Turning
 pub mod Words

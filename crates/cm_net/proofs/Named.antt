@@ -1,23 +1,30 @@
 -- Sites added one by one.
 use Rattle.std.proofs.Common.{◌≡◌, ℕ, Bool, true, false, List, [], ◌∷◌, ◌++◌, None, Some, refl, sym, ap, ◌∙◌, cond, ◌||◌, arith}
-use Rattle.std.specs.List.{filter_map, list_any}
-use Rattle.std.specs.List.Sorted.{IsPermutation}
+use Rattle.std.specs.List.{list_any}
 use Rattle.std.specs.Str.{bytes_eq}
-use Rattle.std.proofs.lemmas.Bool.{true≢false, or_parts, false_from_ne_true}
+use Rattle.std.proofs.lemmas.Bool.{true≢false}
 use Rattle.std.proofs.lemmas.Cmp.{nat_list_eq_equiv}
 use Rattle.std.proofs.lemmas.Slice.Eq.{bytes_eq-Decides}
 use Rattle.std.proofs.lemmas.List.Folds.{list_any-append}
 use Rattle.std.proofs.lemmas.List.Sums.{fold-append}
-use Rattle.std.proofs.lemmas.List.Kept.{Contains-dedup}
-use Rattle.std.proofs.lemmas.List.Sorted.{Contains-permutation}
-use Rattle.std.proofs.lemmas.Map.Views.{list_any-from_Contains, Contains-from_any}
-use Rattle.std.specs.List.{dedup}
 use Rattle.cm_net.specs.declared.boundary.Boundary.{Boundary}
 use Rattle.cm_net.specs.declared.boundary.Boundary.TheVariants.{Subnet, Site, Prefix6, Range4, Range6}
 use Rattle.cm_net.specs.declared.sites.SiteGroups.{SiteGroups}
 use Rattle.cm_net.specs.Boundaries.{holds_site}
 use Rattle.cm_net.specs.Groups.{numbers_of, IsRisingOf}
-use Rattle.cm_net.specs.Sites.{site_of, groups_of_site, AreSitesOf}
+use Rattle.cm_net.specs.Sites.{groups_of_site, numbers_there, AreSitesOf}
+use Rattle.cm_net.proofs.Added.{number_if, numbers_of-push}
+use Rattle.std.specs.declared.alloc.Global.{Global}
+use Rattle.std.specs.Prelude.{Vec}
+use Rattle.std.specs.BTreeMap.{is_at}
+use Rattle.std.specs.Cmp.Lexicographic.{slice_cmp}
+use Rattle.std.specs.Map.{keys_of, lookup}
+use Rattle.std.specs.Option.{is_some}
+use Rattle.std.specs.Ordering.{is_eq, nat_cmp}
+use Rattle.std.proofs.Common.{Option}
+use Rattle.std.proofs.lemmas.List.{append-nil}
+use Rattle.std.proofs.lemmas.Map.Made.{is_some-lookup}
+use Rattle.std.proofs.lemmas.Map.Text.{is_eq-slice_cmp}
 
 -- for a name among these the sites have the numbers, for another one none
 abbrev pub IsSiteOf : List (Boundary × ℕ) → List SiteGroups → List ℕ → Bool → Type 0
@@ -57,17 +64,6 @@ site_added rows names xs new s is right was = λ name.
     λ same. rw ((bytes_eq-Decides name s.name).0 same) right in
     rw test (added rows xs new name (list_any (bytes_eq name) names) s.groups.items (bytes_eq name s.name) groups here (was name))
 
--- a name that no row has is in no row
-no_numbers : (rows : List (Boundary × ℕ)) (name : List ℕ) → list_any (bytes_eq name) (filter_map (λ row. site_of row.0) rows) ≡ false → numbers_of (λ boundary. holds_site boundary (Some name)) rows ≡ []
-no_numbers [] name none = refl
-no_numbers ((Subnet net bits, n) ∷ rows) name none = no_numbers rows name none
-no_numbers ((Site site, n) ∷ rows) name none =
-    let parts = or_parts (bytes_eq name site) (list_any (bytes_eq name) (filter_map (λ (row : Boundary × ℕ). site_of row.0) rows)) none in
-    rw parts.0 (no_numbers rows name parts.1)
-no_numbers ((Prefix6 net bits, n) ∷ rows) name none = no_numbers rows name none
-no_numbers ((Range4 from to, n) ∷ rows) name none = no_numbers rows name none
-no_numbers ((Range6 from to, n) ∷ rows) name none = no_numbers rows name none
-
 nothing_rises : IsRisingOf [] []
 nothing_rises = record { rising = λ k h. absurd (omega (arith, h)); same = λ x. (λ h. h, λ h. h) }
 
@@ -78,20 +74,9 @@ site_or_none rows sites name true none is = is
 site_or_none rows sites name false none is = rw (is, none refl) nothing_rises
 
 pub all_sites : (rows : List (Boundary × ℕ)) (names : List (List ℕ)) (sites : List SiteGroups)
-    → ((name : List ℕ) → list_any (bytes_eq name) names ≡ false → list_any (bytes_eq name) (filter_map (λ row. site_of row.0) rows) ≡ false)
+    → ((name : List ℕ) → list_any (bytes_eq name) names ≡ false → numbers_of (λ boundary. holds_site boundary (Some name)) rows ≡ [])
     → AreSitesOfSome rows names sites → AreSitesOf rows sites
-all_sites rows names sites all some = λ name. site_or_none rows sites name (list_any (bytes_eq name) names) (λ none. no_numbers rows name (all name none)) (some name)
-
--- a name stays among the names through a sort and a dedup
-found_still : (xs ys zs : List (List ℕ)) (name : List ℕ) → IsPermutation xs ys → zs ≡ dedup bytes_eq ys → list_any (bytes_eq name) xs ≡ true → list_any (bytes_eq name) zs ≡ true
-found_still xs ys zs name moved is there =
-    let first = Contains-from_any (λ a b. (bytes_eq-Decides a b).0) name xs there in
-    let then = Contains-permutation xs ys name moved first in
-    rw is (list_any-from_Contains nat_list_eq_equiv name (dedup bytes_eq ys) (Contains-dedup nat_list_eq_equiv (λ a b. (bytes_eq-Decides a b).0) ys name then))
-
-pub missing_still : (xs ys zs : List (List ℕ)) (name : List ℕ) → IsPermutation xs ys → zs ≡ dedup bytes_eq ys → list_any (bytes_eq name) zs ≡ false → list_any (bytes_eq name) xs ≡ false
-missing_still xs ys zs name moved is none =
-    false_from_ne_true (list_any (bytes_eq name) xs) (λ there. true≢false (sym (found_still xs ys zs name moved is there) ∙ none))
+all_sites rows names sites none some = λ name. site_or_none rows sites name (list_any (bytes_eq name) names) (none name) (some name)
 
 -- no row holds a client without a site by it
 pub no_site : (rows : List (Boundary × ℕ)) → numbers_of (λ boundary. holds_site boundary None) rows ≡ []
@@ -104,3 +89,55 @@ no_site ((Range6 from to, n) ∷ rows) = no_site rows
 
 pub none_rises : (rows : List (Boundary × ℕ)) → IsRisingOf (numbers_of (λ boundary. holds_site boundary None) rows) []
 none_rises rows = rw (no_site rows) nothing_rises
+
+-- a number added to the list of one site
+added_if : (old new : Option (Vec ℕ Global)) (list : Vec ℕ Global) (before : List ℕ) (g : ℕ) (here : Bool)
+    → new ≡ cond here (Some list) old → list.items ≡ before ++ g ∷ [] → (here ≡ true → numbers_there old ≡ before)
+    → numbers_there new ≡ numbers_there old ++ cond here (g ∷ []) []
+added_if old new list before g true is items was = ap numbers_there is ∙ (items ∙ ap (λ (ys : List ℕ). ys ++ g ∷ []) (sym (was refl)))
+added_if old new list before g false is items was = ap numbers_there is ∙ sym (append-nil (numbers_there old))
+
+pub number_added : (old new : Option (Vec ℕ Global)) (list : Vec ℕ Global) (name site before : List ℕ) (g : ℕ)
+    → new ≡ cond (is_eq (slice_cmp nat_cmp name site)) (Some list) old → list.items ≡ before ++ g ∷ [] → (name ≡ site → numbers_there old ≡ before)
+    → numbers_there new ≡ numbers_there old ++ cond (bytes_eq site name) (g ∷ []) []
+number_added old new list name site before g is items was =
+    let same : is_eq (slice_cmp nat_cmp name site) ≡ bytes_eq site name = is_eq-slice_cmp name site ∙ nat_list_eq_equiv.symm name site in
+    added_if old new list before g (bytes_eq site name) (rw same at is) items (λ here. was (sym ((bytes_eq-Decides site name).0 here)))
+
+-- a row more, of a site and of none
+pub site_row : (rows : List (Boundary × ℕ)) (row : Boundary × ℕ) (site name old new : List ℕ)
+    → row.0 ≡ Site site → new ≡ old ++ cond (bytes_eq name site) (row.1 ∷ []) [] → old ≡ numbers_of (λ boundary. holds_site boundary (Some name)) rows
+    → new ≡ numbers_of (λ boundary. holds_site boundary (Some name)) (rows ++ row ∷ [])
+site_row rows row site name old new from is was =
+    is ∙ (ap (λ (ys : List ℕ). ys ++ cond (bytes_eq name site) (row.1 ∷ []) []) was
+    ∙ (ap (λ (b : Boundary). numbers_of (λ boundary. holds_site boundary (Some name)) rows ++ number_if (holds_site b (Some name)) row.1) (sym from)
+    ∙ sym (numbers_of-push (λ boundary. holds_site boundary (Some name)) rows row)))
+
+no_site_holds : (b : Boundary) (name : List ℕ) → ((site : List ℕ) → b ≡ Site site → ⊥) → holds_site b (Some name) ≡ false
+no_site_holds (Subnet net bits) name other = refl
+no_site_holds (Site site) name other = absurd (other site refl)
+no_site_holds (Prefix6 net bits) name other = refl
+no_site_holds (Range4 from to) name other = refl
+no_site_holds (Range6 from to) name other = refl
+
+pub other_row : (rows : List (Boundary × ℕ)) (row : Boundary × ℕ) (name old : List ℕ)
+    → ((site : List ℕ) → row.0 ≡ Site site → ⊥) → old ≡ numbers_of (λ boundary. holds_site boundary (Some name)) rows
+    → old ≡ numbers_of (λ boundary. holds_site boundary (Some name)) (rows ++ row ∷ [])
+other_row rows row name old other was =
+    was ∙ (sym (append-nil (numbers_of (λ boundary. holds_site boundary (Some name)) rows))
+    ∙ (ap (λ (b : Bool). numbers_of (λ boundary. holds_site boundary (Some name)) rows ++ number_if b row.1) (sym (no_site_holds row.0 name other))
+    ∙ sym (numbers_of-push (λ boundary. holds_site boundary (Some name)) rows row)))
+
+-- a name that no entry has
+any_key : (name : List ℕ) (names : List (List ℕ)) → list_any (is_at (slice_cmp nat_cmp name)) names ≡ list_any (bytes_eq name) names
+any_key name [] = refl
+any_key name (other ∷ names) = rw (is_eq-slice_cmp name other, any_key name names) refl
+
+nothing_there : (found : Option (Vec ℕ Global)) → is_some found ≡ false → numbers_there found ≡ []
+nothing_there None h = refl
+nothing_there (Some list) h = absurd (true≢false h)
+
+pub no_entry : (entries : List (List ℕ × Vec ℕ Global)) (name : List ℕ) → list_any (bytes_eq name) (keys_of entries) ≡ false → numbers_there (lookup (is_at (slice_cmp nat_cmp name)) entries) ≡ []
+no_entry entries name none =
+    nothing_there (lookup (is_at (slice_cmp nat_cmp name)) entries)
+    (is_some-lookup (is_at (slice_cmp nat_cmp name)) entries ∙ (any_key name (keys_of entries) ∙ none))

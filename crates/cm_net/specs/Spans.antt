@@ -1,5 +1,8 @@
 -- Spans of addresses with the numbers of their groups, and the stretches between the ends of spans.
-use Rattle.std.specs.Prelude.{◌≡◌, ℕ, ◌≤◌, ◌<◌, ◌^◌, nat_le, Bool, List, map, filter, fold, [], ◌∷◌, Option, Some, None, min, if◌then◌else◌}
+use Rattle.std.specs.Prelude.{◌≡◌, ◌↔◌, Contains, IsSomeAnd, ◌≤◌, ℕ, ◌+◌, ◌-◌, ◌<◌, ◌^◌, ◌==◌, nat_le, nat_lt, Bool, List, map, filter, fold, [], ◌∷◌, Option, Some, None, max, if◌then◌else◌}
+use Rattle.std.specs.BTreeMap.{BTreeMap, get}
+use Rattle.std.specs.List.Sorted.{IsStrictlyIncreasing}
+use Rattle.std.specs.Ordering.{nat_cmp}
 use Rattle.cm_net.specs.declared.span.Span.{Span}
 use Rattle.cm_net.specs.declared.stretches.Stretch.{Stretch}
 use Rattle.cm_net.specs.Boundaries.{is_between}
@@ -22,16 +25,27 @@ groups_at stretches address =
 abbrev pub ArePiecesOf : List Span → List Stretch → Type 0
 ArePiecesOf spans stretches = (address : ℕ) → address < 2 ^ 128 → IsRisingOf (numbers_at spans address) (groups_at stretches address)
 
--- the sooner of two turns, where there are any
-abbrev pub sooner_of : Option ℕ → Option ℕ → Option ℕ
-sooner_of None turn = turn
-sooner_of (Some one) None = Some one
-sooner_of (Some one) (Some other) = Some (min one other)
+-- the first address of the span, and the one behind its last where there is one
+abbrev pub turns_of_span : Span → List ℕ
+turns_of_span span = span.first ∷ (if nat_lt span.last (2 ^ 128 - 1) then (span.last + 1) ∷ [] else [])
 
--- from one address on, what f says stays the same up to the turn, or up to the last address where there is none
-abbrev pub Stays : {X : Type 0} → (ℕ → X) → ℕ → Option ℕ → Type 0
-Stays f from None = (address : ℕ) → from ≤ address → address < 2 ^ 128 → f address ≡ f from
-Stays f from (Some turn) = (from < turn) × (turn < 2 ^ 128) × ((address : ℕ) → from ≤ address → address < turn → f address ≡ f from)
+-- the reach of a group, and that with a span more
+abbrev pub farther : Option ℕ → ℕ → Option ℕ
+farther None last = Some last
+farther (Some reach) last = Some (max last reach)
+
+-- the greatest last address of the spans of the group, where it has any
+abbrev pub reach_of : List Span → ℕ → Option ℕ
+reach_of spans group = fold (λ reach span. if group == span.group then farther reach span.last else reach) None spans
+
+-- for each group the map has the greatest last address of its spans
+abbrev pub AreReachesOf : List Span → BTreeMap ℕ ℕ → Type 0
+AreReachesOf spans reaches = (group : ℕ) → get nat_cmp reaches group ≡ reach_of spans group
+
+-- the groups that reach to the address, rising, each once
+pub record AreReaching (reaches : BTreeMap ℕ ℕ) (address : ℕ) (groups : List ℕ) : Type 0 where
+  pub rising : IsStrictlyIncreasing groups
+  pub those : (group : ℕ) → Contains groups group ↔ IsSomeAnd (get nat_cmp reaches group) (λ last. address ≤ last)
 
 -- the span from the one end to the other, where there are ends
 abbrev pub spans_of : Option (ℕ × ℕ) → ℕ → List Span

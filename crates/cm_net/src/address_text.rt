@@ -1,5 +1,5 @@
 //! Reading an address.
-ghost use Rattle.std.specs.Prelude.{◌≡◌, ◌≤◌, IfOk, IfErr, MatchResult};
+ghost use Rattle.std.specs.Prelude.{IfOk, IfErr, MatchResult};
 ghost use Rattle.cm_net.specs.Addresses.{IsFour, IsSix, IsAddress};
 ghost use Rattle.cm_net.specs.Texts.{LeavesAt};
 ghost use Rattle.cm_net.specs.Faults.{IsAddressFault};

@@ -1,6 +1,5 @@
 //! Writing a boundary.
-ghost use Rattle.std.specs.Prelude.{◌≡◌, ◌+◌, ◌*◌, ◌≤◌, ◌<◌, ◌++◌, ◌∷◌, ℕ, codes, length};
-ghost use Rattle.arrayvec.specs.ArrayVec.{array_vec_len};
+ghost use Rattle.std.specs.Prelude.{◌≡◌, ◌+◌, ◌*◌, ◌≤◌, ◌<◌, ◌++◌, ◌∷◌, codes, length};
 ghost use Rattle.cm_net.specs.Addresses.{decimal, IsAddress};
 ghost use Rattle.cm_net.specs.Boundaries.{IsSound};
 ghost use Rattle.cm_net.specs.Spellings.{address_text};

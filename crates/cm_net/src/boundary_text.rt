@@ -1,5 +1,5 @@
 //! Reading a boundary.
-ghost use Rattle.std.specs.Prelude.{◌≡◌, ◌++◌, ◌∷◌, ℕ, List, Some, None, MatchOption, MatchResult, codes};
+ghost use Rattle.std.specs.Prelude.{◌≡◌, ◌++◌, ◌∷◌, ℕ, List, Some, None, MatchOption};
 ghost use Rattle.cm_net.specs.Written.{IsBits};
 ghost use Rattle.cm_net.specs.Free.{IsFree};
 

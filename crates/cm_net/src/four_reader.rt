@@ -1,6 +1,6 @@
 //! Reading an IPv4 address, byte by byte.
-ghost use Rattle.std.specs.Prelude.{◌≡◌, ◌≤◌, ◌<◌, ◌+◌, ◌-◌, ◌*◌, Some, None, MatchBool, length};
-ghost use Rattle.cm_net.specs.FourReader.{Four, four_of, longer_part, lone4, step4, final4};
+ghost use Rattle.std.specs.Prelude.{◌≡◌, ◌<◌, ◌+◌, ◌-◌, ◌*◌, Some, None, MatchBool};
+ghost use Rattle.cm_net.specs.FourReader.{four_of, longer_part, lone4, step4, final4};
 
 use arrayvec::ArrayVec;
 

@@ -75,17 +75,24 @@ fn spans6(alloc: Global, rows: &[(Boundary, u16)]) -> Result<Vec<Span>, AllocErr
 
 impl Index {
     /// The index of these rows.
+    pub fn of_rows(alloc: Global, rows: Vec<(Boundary, u16)>) -> Result<Index, Memory>
+        requires { All (λ row. IsSound row.0) rows.items }
+        ensures { IfOk result (λ index. index ≡ rows.items) }
+    {
+        Ok(Index {
+            four: stretches_of(alloc, spans4(alloc, &rows)?)?,
+            six: stretches_of(alloc, spans6(alloc, &rows)?)?,
+            sites: sites_of(alloc, &rows)?,
+            rows: Snapshot::of(&rows),
+        })
+    }
+
+    /// The index of a copy of these rows.
     pub fn build(alloc: Global, rows: &[(Boundary, u16)]) -> Result<Index, Memory>
         requires { All (λ row. IsSound row.0) rows.now }
         ensures { IfOk result (λ index. index ≡ rows.now) }
     {
-        let copy = Vec::from_slice(alloc, rows)?;
-        Ok(Index {
-            four: stretches_of(alloc, &spans4(alloc, rows)?)?,
-            six: stretches_of(alloc, &spans6(alloc, rows)?)?,
-            sites: sites_of(alloc, rows)?,
-            rows: Snapshot::of(&copy),
-        })
+        Index::of_rows(alloc, Vec::from_slice(alloc, rows)?)
     }
 
     /// The numbers of the groups that have the client by its address.

@@ -14,6 +14,7 @@ mod index;
 mod meaning;
 mod membership;
 mod numbers;
+mod reaches;
 mod site_name;
 mod site_text;
 mod sites;
@@ -24,6 +25,7 @@ mod steps;
 mod stretches;
 #[cfg(test)]
 mod tests;
+mod turns;
 
 pub use address::Address;
 pub use boundary::Boundary;
@@ -31,5 +33,6 @@ pub use fault::NetFault;
 pub use index::Index;
 pub use meaning::{each_text_is_read, one_meaning};
 pub use membership::inside;
+pub use numbers::rising;
 pub use site_name::SiteName;
 pub use steps::Steps;

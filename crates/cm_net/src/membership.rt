@@ -1,5 +1,5 @@
 //! Whether a boundary holds a client.
-ghost use Rattle.std.specs.Prelude.{◌≡◌, ◌↔◌, IsTrue, ◌^◌, ◌-◌, ◌≤◌, ◌%◌, ◌<◌};
+ghost use Rattle.std.specs.Prelude.{◌≡◌, ◌-◌, ◌≤◌, ◌<◌};
 ghost use Rattle.std.specs.Option.{option_copied};
 ghost use Rattle.cm_net.specs.Boundaries.{holds_site, is_inside, IsSound, same_first_bits};
 

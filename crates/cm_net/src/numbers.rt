@@ -1,11 +1,18 @@
-//! Group numbers in rising order.
-ghost use Rattle.std.specs.Prelude.{IfOk};
+//! Numbers of groups, and addresses, in rising order.
 ghost use Rattle.cm_net.specs.Groups.{IsRisingOf};
 
-use cm_base::Memory;
+/// The addresses, each once, rising.
+pub(crate) fn rising_addresses(addresses: Vec<u128>) -> Vec<u128>
+    ensures { IsRisingOf addresses.items result.items }
+{
+    let mut addresses = addresses;
+    addresses.sort_unstable();
+    addresses.dedup();
+    addresses
+}
 
 /// The numbers, each once, rising.
-pub(crate) fn rising(numbers: Vec<u16>) -> Vec<u16>
+pub fn rising(numbers: Vec<u16>) -> Vec<u16>
     ensures { IsRisingOf numbers.items result.items }
 {
     let mut numbers = numbers;

@@ -1,5 +1,5 @@
 //! Reading an IPv6 address, byte by byte.
-ghost use Rattle.std.specs.Prelude.{◌≡◌, ◌≤◌, ◌<◌, ◌+◌, ◌-◌, ◌*◌, ◌^◌, ◌++◌, Some, None, MatchBool, IfSome};
+ghost use Rattle.std.specs.Prelude.{◌≡◌, ◌≤◌, ◌<◌, ◌+◌, ◌-◌, ◌*◌, ◌^◌, Some, None, MatchBool, IfSome};
 ghost use Rattle.cm_net.specs.Addresses.{hex_of};
 ghost use Rattle.arrayvec.specs.ArrayVec.{array_vec_len};
 

@@ -1,5 +1,5 @@
 //! The addresses of a boundary, from the first to the last.
-ghost use Rattle.std.specs.Prelude.{◌≡◌, ◌+◌, ◌-◌, ◌%◌, ◌^◌, ◌≤◌, ◌<◌, ℕ, false, MatchOption};
+ghost use Rattle.std.specs.Prelude.{◌≡◌, ◌+◌, ◌-◌, ◌^◌, ◌≤◌, ◌<◌, ℕ, false, MatchOption};
 ghost use Rattle.cm_net.specs.Boundaries.{holds_address, IsSound, is_between};
 
 use crate::{Address, Boundary};

@@ -1,13 +1,15 @@
 //! The stretches of addresses between the ends of spans.
 ghost use Rattle.std.specs.Prelude.{◌≡◌, IfOk};
-ghost use Rattle.cm_net.specs.Spans.{numbers_at, groups_at, is_in, ArePiecesOf, Stays, sooner_of};
-ghost use Rattle.cm_net.specs.Groups.{IsRisingOf};
+ghost use Rattle.std.specs.List.Sorted.{IsNonDecreasingBy, IsPermutation};
+ghost use Rattle.cm_net.specs.Spans.{groups_at, ArePiecesOf};
 
 use crate::Steps;
-use crate::numbers::rising;
+use crate::reaches::{begun_at, groups_reaching};
 use crate::span::Span;
+use crate::turns::turns_of;
 use cm_base::Memory;
-use std::alloc::{AllocError, Global};
+use std::alloc::Global;
+use std::collections::BTreeMap;
 use std::sync::ledger::Ledger;
 
 /// The addresses from a first one to the begin of the next stretch, and the numbers of the groups that have them.
@@ -17,74 +19,35 @@ pub(crate) struct Stretch {
     pub groups: Vec<u16>,
 }
 
-/// Whether the address is in the span.
-fn is_in(address: u128, span: &Span) -> bool
-    ensures { result ≡ is_in address span.now }
+/// The spans in the order of their first addresses.
+fn by_first(spans: Vec<Span>) -> Vec<Span>
+    ensures order { IsNonDecreasingBy (λ span. span.first) result.items }
+    ensures same { IsPermutation spans.items result.items }
 {
-    span.first <= address && address <= span.last
-}
-
-/// The numbers of the spans that hold the address, in the order of the spans.
-fn numbers_in(alloc: Global, spans: &[Span], address: u128) -> Result<Vec<u16>, AllocError>
-    ensures { IfOk result (λ numbers. numbers.items ≡ numbers_at spans.now address) }
-{
+    let mut spans = spans;
+    spans.sort_unstable_by_key(|span| span.first);
     spans
-        .iter()
-        .filter(|span| is_in(address, span))
-        .map(|span| span.group)
-        .collect(alloc)
 }
 
-/// An address behind `from` up to which the span holds all addresses from there on, or none. None: it does so up to the
-/// last.
-fn turn_of(span: &Span, from: u128) -> Option<u128>
-    ensures { Stays (λ address. is_in address span.now) from result }
+/// The stretches between the ends of the spans, from address 0 on. One walk over the spans: at each end, those that begin
+/// there let their groups reach farther, and the groups of the stretch are those that reach to it.
+pub(crate) fn stretches_of(alloc: Global, spans: Vec<Span>) -> Result<Vec<Stretch>, Memory>
+    ensures { IfOk result (λ stretches. ArePiecesOf spans.items stretches.items) }
 {
-    if from < span.first {
-        return Some(span.first);
-    }
-    if from <= span.last && span.last < u128::MAX {
-        return Some(span.last + 1);
-    }
-    None
-}
-
-/// The sooner of two turns.
-fn sooner(one: Option<u128>, other: Option<u128>) -> Option<u128>
-    ensures { result ≡ sooner_of one other }
-{
-    match (one, other) {
-        (None, turn) => turn,
-        (turn, None) => turn,
-        (Some(one), Some(other)) => Some(one.min(other)),
-    }
-}
-
-/// The first address behind `from` at which a span begins or has ended. None where there is no such.
-fn next_turn(spans: &[Span], from: u128) -> Option<u128>
-    ensures { Stays (λ address. numbers_at spans.now address) from result }
-{
-    let mut next = None;
-    for span in spans {
-        next = sooner(next, turn_of(span, from));
-    }
-    next
-}
-
-/// The stretches between the ends of the spans, from the first address on.
-pub(crate) fn stretches_of(alloc: Global, spans: &[Span]) -> Result<Vec<Stretch>, Memory>
-    ensures { IfOk result (λ stretches. ArePiecesOf spans.now stretches.items) }
-{
+    let turns = turns_of(alloc, &spans)?;
+    let spans = by_first(spans);
+    let mut reaches = BTreeMap::new(alloc);
+    let mut begun = 0;
     let mut stretches = Vec::new(alloc);
-    let mut start = 0;
-    loop {
-        let groups = rising(numbers_in(alloc, spans, start)?);
-        stretches.push(Stretch { start, groups })?;
-        match next_turn(spans, start) {
-            Some(next) => start = next,
-            None => return Ok(stretches),
-        }
+    for start in &turns {
+        begun = begun_at(&mut reaches, &spans, begun, *start)?;
+        let groups = groups_reaching(alloc, &reaches, *start)?;
+        stretches.push(Stretch {
+            start: *start,
+            groups,
+        })?;
     }
+    Ok(stretches)
 }
 
 /// The groups of the stretch that has the address, looked for from the front.

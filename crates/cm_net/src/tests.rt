@@ -315,3 +315,77 @@ fn an_index_finds_sites(rt: HostRuntime) -> Result<(), Fail> {
     found::<Brand>(&rt, Blank::new(1), &index, nowhere.as_ref(), (&[4], &[]));
     Ok(())
 }
+
+fn are_counted<L: Ledger>(
+    rt: &impl Abort,
+    blank: Blank,
+    index: &Index,
+    clients: &[(Address, &[u16])],
+)
+    requires name { blank.name ≡ L.name }
+    requires parts { blank.parts ≡ L.parts }
+    requires some { 0 < L.parts }
+{
+    let mut steps = Steps::<L>::new(blank);
+    for (address, wanted) in clients {
+        let (by_address, by_site) = index.of(*address, None, &mut steps);
+        assert!(rt; by_address == *wanted);
+        assert!(rt; by_site.is_empty());
+    }
+}
+
+/// The index has these groups for these clients, who have no site.
+fn are_found(rt: &impl Abort, index: &Index, clients: &[(Address, &[u16])]) {
+    are_counted::<Brand>(rt, Blank::new(1), index, clients);
+}
+
+#[test]
+fn an_index_finds_nested_rows(rt: HostRuntime) -> Result<(), Fail> {
+    let rows = [
+        (
+            Boundary::Subnet {
+                net: 0x0A00_0000,
+                bits: 8,
+            },
+            1,
+        ),
+        (
+            Boundary::Range4 {
+                from: 0x0A00_0005,
+                to: 0x0A00_0005,
+            },
+            2,
+        ),
+        (Boundary::Subnet { net: 0, bits: 0 }, 3),
+    ];
+    let index = Index::build(rt.alloc(), &rows)?;
+    let clients: [(Address, &[u16]); 5] = [
+        (Address::V4(0x0A00_0005), &[1, 2, 3]),
+        (Address::V4(0x0A00_0006), &[1, 3]),
+        (Address::V4(0), &[3]),
+        (Address::V4(u32::MAX), &[3]),
+        (Address::V6(5), &[]),
+    ];
+    are_found(&rt, &index, &clients);
+    Ok(())
+}
+
+#[test]
+fn a_short_row_within_a_long_one_ends_no_group(rt: HostRuntime) -> Result<(), Fail> {
+    let rows = [
+        (Boundary::Range4 { from: 10, to: 90 }, 6),
+        (Boundary::Range4 { from: 20, to: 30 }, 6),
+        (Boundary::Range4 { from: 91, to: 91 }, 6),
+        (Boundary::Range4 { from: 30, to: 40 }, 5),
+    ];
+    let index = Index::build(rt.alloc(), &rows)?;
+    let clients: [(Address, &[u16]); 5] = [
+        (Address::V4(9), &[]),
+        (Address::V4(30), &[5, 6]),
+        (Address::V4(41), &[6]),
+        (Address::V4(91), &[6]),
+        (Address::V4(92), &[]),
+    ];
+    are_found(&rt, &index, &clients);
+    Ok(())
+}

@@ -1,6 +1,6 @@
 //! Values of a document at keys.
 ghost use Rattle.std.specs.Prelude.{◌≡◌, None, Ok, Err, Result, map, option_map, MatchResult};
-ghost use Rattle.toml.specs.Data.{as_array, get_member};
+ghost use Rattle.toml.specs.Data.{get_member};
 ghost use Rattle.toml.specs.View.{table_view, view};
 ghost use Rattle.cm_topo.specs.Keys.{items_said, items_of};
 

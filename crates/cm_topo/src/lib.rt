@@ -5,7 +5,6 @@ mod document;
 mod fault;
 mod first_pass;
 mod keys;
-mod labels;
 mod lists;
 mod part;
 mod placed;

@@ -1,12 +1,10 @@
 //! The second pass: the names that refer to others.
 ghost use Rattle.std.specs.Prelude.{◌≡◌, ◌+◌, ◌++◌, ◌≤◌, IfOk, length, map, take};
 ghost use Rattle.std.specs.List.{flat_map};
-ghost use Rattle.cm_groups.specs.Texts.{group_names, names_of_rows};
 ghost use Rattle.cm_topo.specs.Rules.{no_such_boundary, no_such_point};
 ghost use Rattle.cm_topo.specs.SecondPass.{IsFew, boundary_refers, group_refers, group_relations_refer, groups_refer, leads_to, missing, peer_names, peer_refers, point_group_names, point_group_refers, point_names, point_refers, relation_refers, second_pass, servers_refer, source_refers};
 ghost use Rattle.cm_topo.specs.Troubles.{each_entry, fault_at, first, numbered};
 
-use crate::labels::Labels;
 use crate::placed::Placed;
 use crate::rules::{
     NO_SUCH_BOUNDARY, NO_SUCH_GROUP, NO_SUCH_POINT, PULL_FROM_ITSELF, SAME_NAME, SAME_RELATION,
@@ -16,14 +14,14 @@ use crate::servers::Servers;
 use crate::topology_text::TopologyText;
 use crate::trouble::Trouble;
 use cm_base::{Label, Memory, ServerName};
-use cm_groups::{Fallback, GroupText, SiteCode};
+use cm_groups::{Fallback, GroupText, Names, SiteCode};
 use cm_net::Boundary;
 use cm_peer::Peer;
 use cm_points::{Point, PointGroup, PullSource};
 use std::alloc::{AllocError, Global};
 
 /// The first of the wanted boundaries that is not there.
-fn missing_boundary(boundaries: &Labels, wanted: &[Label]) -> Option<Trouble>
+fn missing_boundary(boundaries: &Names, wanted: &[Label]) -> Option<Trouble>
     ensures { first (missing no_such_boundary boundaries.now wanted.now) ≡ result }
 {
     for name in wanted {
@@ -47,7 +45,7 @@ fn missing_point(points: &Servers, wanted: &[ServerName]) -> Option<Trouble>
 }
 
 /// What is wrong with the name of a boundary.
-fn boundary_trouble(names: &Labels, entry: usize, row: &(Label, Boundary)) -> Option<Trouble>
+fn boundary_trouble(names: &Names, entry: usize, row: &(Label, Boundary)) -> Option<Trouble>
     ensures { first (boundary_refers names.now entry row.now) ≡ result }
 {
     if names.has_before(entry, &row.0) {
@@ -57,7 +55,7 @@ fn boundary_trouble(names: &Labels, entry: usize, row: &(Label, Boundary)) -> Op
 }
 
 /// The first fault of the names of boundaries.
-fn boundaries_fault(names: &Labels, rows: &[(Label, Boundary)]) -> Option<Placed>
+fn boundaries_fault(names: &Names, rows: &[(Label, Boundary)]) -> Option<Placed>
     requires { length rows.now ≤ 2000 }
     ensures { first (each_entry 1 (boundary_refers names.now) 0 rows.now) ≡ result }
 {
@@ -71,8 +69,8 @@ fn boundaries_fault(names: &Labels, rows: &[(Label, Boundary)]) -> Option<Placed
 
 /// What is wrong with the names in a group, apart from its relations.
 fn group_trouble(
-    boundaries: &Labels,
-    groups: &Labels,
+    boundaries: &Names,
+    groups: &Names,
     points: &Servers,
     entry: usize,
     text: &GroupText,
@@ -91,8 +89,8 @@ fn group_trouble(
 
 /// The first fault of the names in groups, apart from their relations.
 fn groups_fault(
-    boundaries: &Labels,
-    groups: &Labels,
+    boundaries: &Names,
+    groups: &Names,
     points: &Servers,
     texts: &[GroupText],
 ) -> Option<Placed>
@@ -116,7 +114,7 @@ fn lead_to(relations: &[(Label, Fallback)], to: &Label) -> bool
 
 /// What is wrong with the relation of that number of a group.
 fn relation_trouble(
-    groups: &Labels,
+    groups: &Names,
     name: &Label,
     before: &[(Label, Fallback)],
     to: &Label,
@@ -136,7 +134,7 @@ fn relation_trouble(
 }
 
 /// What is wrong with the first relation of a group that has a fault.
-fn relations_trouble(groups: &Labels, text: &GroupText) -> Option<Trouble>
+fn relations_trouble(groups: &Names, text: &GroupText) -> Option<Trouble>
     ensures { first (group_relations_refer groups.now text.now) ≡ result }
 {
     relations_of_trouble(groups, &text.name, text.relations.items())
@@ -144,7 +142,7 @@ fn relations_trouble(groups: &Labels, text: &GroupText) -> Option<Trouble>
 
 /// What is wrong with the first relation that has a fault, in a group of that name.
 fn relations_of_trouble(
-    groups: &Labels,
+    groups: &Names,
     name: &Label,
     relations: &[(Label, Fallback)],
 ) -> Option<Trouble>
@@ -160,7 +158,7 @@ fn relations_of_trouble(
 }
 
 /// The first fault of the relations of groups.
-fn relations_fault(groups: &Labels, texts: &[GroupText]) -> Option<Placed>
+fn relations_fault(groups: &Names, texts: &[GroupText]) -> Option<Placed>
     requires { length texts.now ≤ 500 }
     ensures { first (each_entry 3 (λ _ text. group_relations_refer groups.now text) 0 texts.now) ≡ result }
 {
@@ -222,7 +220,7 @@ fn points_fault(names: &Servers, points: &[Point]) -> Option<Placed>
 
 /// What is wrong with the names in a point group.
 fn point_group_trouble(
-    names: &Labels,
+    names: &Names,
     points: &Servers,
     entry: usize,
     group: &PointGroup,
@@ -236,7 +234,7 @@ fn point_group_trouble(
 }
 
 /// The first fault of the names in point groups.
-fn point_groups_fault(names: &Labels, points: &Servers, groups: &[PointGroup]) -> Option<Placed>
+fn point_groups_fault(names: &Names, points: &Servers, groups: &[PointGroup]) -> Option<Placed>
     requires { length groups.now ≤ 64 }
     ensures { first (each_entry 5 (point_group_refers names.now points.now) 0 groups.now) ≡ result }
 {
@@ -281,33 +279,6 @@ fn default_fault(points: &Servers, wanted: &[ServerName]) -> Option<Placed>
     }
 }
 
-/// The labels of boundaries.
-fn labels_of_rows(alloc: Global, rows: &[(Label, Boundary)]) -> Result<Vec<Label>, AllocError>
-    ensures { IfOk result (λ names. names.items ≡ names_of_rows rows.now) }
-{
-    rows.iter().map(|row| row.0).collect(alloc)
-}
-
-/// The names of boundaries.
-fn names_of_boundaries(alloc: Global, rows: &[(Label, Boundary)]) -> Result<Labels, Memory>
-    ensures { IfOk result (λ names. names ≡ names_of_rows rows.now) }
-{
-    let names = labels_of_rows(alloc, rows)?;
-    Labels::of(alloc, names)
-}
-
-/// The names of all groups, the default one first.
-fn names_of_groups(alloc: Global, code: SiteCode, texts: &[GroupText]) -> Result<Labels, Memory>
-    ensures { IfOk result (λ names. names ≡ group_names code texts.now) }
-{
-    let mut names = Vec::new(alloc);
-    names.push(code.default_name())?;
-    for text in texts {
-        names.push(text.name)?;
-    }
-    Labels::of(alloc, names)
-}
-
 /// The names of these points, as a list.
 fn list_of_points(alloc: Global, points: &[Point]) -> Result<Vec<ServerName>, AllocError>
     ensures { IfOk result (λ names. names.items ≡ point_names points.now) }
@@ -331,11 +302,11 @@ fn list_of_point_groups(alloc: Global, groups: &[PointGroup]) -> Result<Vec<Labe
 }
 
 /// The names of point groups.
-fn names_of_point_groups(alloc: Global, groups: &[PointGroup]) -> Result<Labels, Memory>
+fn names_of_point_groups(alloc: Global, groups: &[PointGroup]) -> Result<Names, Memory>
     ensures { IfOk result (λ names. names ≡ point_group_names groups.now) }
 {
     let names = list_of_point_groups(alloc, groups)?;
-    Labels::of(alloc, names)
+    Names::of(alloc, names)
 }
 
 /// The names of these peers, as a list.
@@ -355,8 +326,8 @@ fn names_of_peers(alloc: Global, peers: &[Peer]) -> Result<Servers, Memory>
 
 /// The first fault of the names in boundaries, groups and relations.
 fn groups_refer_fault(
-    boundaries: &Labels,
-    groups: &Labels,
+    boundaries: &Names,
+    groups: &Names,
     points: &Servers,
     text: &TopologyText,
 ) -> Option<Placed>
@@ -375,7 +346,7 @@ fn groups_refer_fault(
 /// The first fault of the names in points, point groups, peers and the default points.
 fn servers_refer_fault(
     points: &Servers,
-    point_groups: &Labels,
+    point_groups: &Names,
     peers: &Servers,
     text: &TopologyText,
 ) -> Option<Placed>
@@ -396,10 +367,10 @@ fn servers_refer_fault(
 
 /// The first fault by the names that there are.
 fn refer_fault(
-    boundaries: &Labels,
-    groups: &Labels,
+    boundaries: &Names,
+    groups: &Names,
     points: &Servers,
-    point_groups: &Labels,
+    point_groups: &Names,
     peers: &Servers,
     text: &TopologyText,
 ) -> Option<Placed>
@@ -420,8 +391,8 @@ pub(crate) fn second_pass_fault(
     requires { IsFew text.now }
     ensures { IfOk result (λ fault. first (second_pass text.now) ≡ fault) }
 {
-    let boundaries = names_of_boundaries(alloc, text.boundaries.items())?;
-    let groups = names_of_groups(alloc, text.code, text.groups.items())?;
+    let boundaries = Names::of_boundaries(alloc, text.boundaries.items())?;
+    let groups = Names::of_groups(alloc, text.code, text.groups.items())?;
     let points = names_of_points(alloc, text.points.items())?;
     let point_groups = names_of_point_groups(alloc, text.point_groups.items())?;
     let peers = names_of_peers(alloc, text.peers.items())?;

@@ -3,7 +3,7 @@ use Rattle.std.proofs.lemmas.List.{take_more}
 use Rattle.cm_net.specs.declared.address.Address.TheVariants.{V4}
 use Rattle.cm_net.specs.declared.boundary.Boundary.{Boundary}
 use Rattle.cm_net.specs.Boundaries.{holds_address}
-use Rattle.cm_net.proofs.Turns.{row_added, ends_say}
+use Rattle.cm_net.proofs.Added.{row_added, ends_say}
 use Rattle.cm_net.proofs.index.spans4.Goals as goal
 
 pub loop-boundary-preserved : goal.loop-boundary-preserved

@@ -1,10 +1,9 @@
-use Rattle.std.proofs.Common.{ℕ, ◌-◌, ◌<◌, ◌^◌}
-use Rattle.cm_net.specs.Groups.{IsRisingOf}
-use Rattle.cm_net.specs.Spans.{numbers_at, groups_at}
+use Rattle.std.proofs.Common.{◌≤◌, length, take}
+use Rattle.cm_net.specs.Spans.{AreReachesOf}
+use Rattle.cm_net.proofs.Turning.{AreRightBefore, HaveBegun}
 use Rattle.cm_net.proofs.stretches.stretches_of.Given as goal
 
-abbrev pub invariant-loop-stretches : goal.invariant-loop-stretches
-invariant-loop-stretches l = (address : ℕ) → address < l.start → IsRisingOf (numbers_at l.spans address) (groups_at l.stretches.items address)
-
-abbrev pub decreases-loop-stretches : goal.decreases-loop-stretches
-decreases-loop-stretches l = 2 ^ 128 - l.start
+abbrev pub invariant-loop-start : goal.invariant-loop-start
+invariant-loop-start l =
+    AreRightBefore l.fn.spans.items l.start-items l.start-index l.stretches.items
+    × (l.begun ≤ length l.spans.items) × HaveBegun l.spans.items l.begun l.start-items l.start-index × AreReachesOf (take l.begun l.spans.items) l.reaches

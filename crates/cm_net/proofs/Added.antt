@@ -1,5 +1,5 @@
 -- Spans added one by one, and stretches added at the end.
-use Rattle.std.proofs.Common.{◌≡◌, ℕ, ◌<◌, ◌≤◌, Bool, true, false, leb, List, [], ◌∷◌, ◌++◌, map, Option, None, Some, refl, sym, ap, ◌∙◌, arith, cond, MatchOption}
+use Rattle.std.proofs.Common.{◌≡◌, ℕ, ◌<◌, ◌≤◌, Bool, true, false, leb, List, [], ◌∷◌, ◌++◌, map, Option, None, Some, refl, sym, ap, ◌∙◌, cond, MatchOption}
 use Rattle.std.specs.List.{filter}
 use Rattle.std.proofs.lemmas.List.{map-append, append-nil}
 use Rattle.std.proofs.lemmas.List.Elements.{filter-append}
@@ -11,7 +11,7 @@ use Rattle.std.proofs.lemmas.Bool.{cases_lt, le-leb, lt-leb}
 use Rattle.cm_net.specs.declared.boundary.Boundary.{Boundary}
 use Rattle.cm_net.specs.Boundaries.{is_between}
 use Rattle.cm_net.specs.Groups.{numbers_of, IsRisingOf}
-use Rattle.cm_net.specs.Spans.{is_in, numbers_at, groups_at, Stays, sooner_of, spans_of}
+use Rattle.cm_net.specs.Spans.{is_in, numbers_at, groups_at, spans_of}
 
 -- the number of one span, where it holds the address
 abbrev pub number_if : Bool → ℕ → List ℕ
@@ -26,17 +26,6 @@ numbers_at-push xs s a =
     ∙ (map-append (λ (x : Span). x.group) (filter (is_in a) xs) (filter (is_in a) (s ∷ []))
     ∙ ap (λ (ys : List ℕ). numbers_at xs a ++ ys) (one_number s a))
 
-same_push : (xs : List Span) (s : Span) (a b : ℕ) → numbers_at xs a ≡ numbers_at xs b → is_in a s ≡ is_in b s → numbers_at (xs ++ s ∷ []) a ≡ numbers_at (xs ++ s ∷ []) b
-same_push xs s a b p q =
-    numbers_at-push xs s a ∙ (ap (λ (ys : List ℕ). ys ++ number_if (is_in a s) s.group) p
-    ∙ (ap (λ (t : Bool). numbers_at xs b ++ number_if t s.group) q ∙ sym (numbers_at-push xs s b)))
-
-pub Stays-push : (xs : List Span) (s : Span) (from : ℕ) (t u : Option ℕ) → Stays (λ a. numbers_at xs a) from t → Stays (λ a. is_in a s) from u → Stays (λ a. numbers_at (xs ++ s ∷ []) a) from (sooner_of t u)
-Stays-push xs s from None None p q = λ a low high. same_push xs s a from (p a low high) (q a low high)
-Stays-push xs s from None (Some u) p q = (q.0, q.1, λ a low high. same_push xs s a from (p a low (omega (arith, q.1, high))) (q.2 a low high))
-Stays-push xs s from (Some t) None p q = (p.0, p.1, λ a low high. same_push xs s a from (p.2 a low high) (q a low (omega (arith, p.1, high))))
-Stays-push xs s from (Some t) (Some u) p q = (omega (arith, p.0, q.0), omega (arith, p.1), λ a low high. same_push xs s a from (p.2 a low (omega (arith, high))) (q.2 a low (omega (arith, high))))
-
 pub groups_at-push : (xs : List Stretch) (s : Stretch) (a : ℕ) → groups_at (xs ++ s ∷ []) a ≡ cond (leb s.start a) s.groups.items (groups_at xs a)
 groups_at-push xs s a = fold-append (λ (found : List ℕ) (stretch : Stretch). cond (leb stretch.start a) stretch.groups.items found) [] xs (s ∷ [])
 
@@ -49,12 +38,12 @@ within_added spans xs s a high same new = rw (groups_at-push xs s a, le-leb s.st
 
 pub stretch_added : (spans : List Span) (xs new : List Stretch) (s : Stretch) (a : ℕ)
     → new ≡ xs ++ s ∷ []
-    → ((b : ℕ) → b < s.start → IsRisingOf (numbers_at spans b) (groups_at xs b))
+    → (a < s.start → IsRisingOf (numbers_at spans a) (groups_at xs a))
     → IsRisingOf (numbers_at spans s.start) s.groups.items
     → (s.start ≤ a → numbers_at spans a ≡ numbers_at spans s.start)
     → IsRisingOf (numbers_at spans a) (groups_at new a)
 stretch_added spans xs new s a is old right same =
-    rw is (elim (cases_lt a s.start) [ inl low ↦ before_added spans xs s a low (old a low) | inr high ↦ within_added spans xs s a high (same high) right ])
+    rw is (elim (cases_lt a s.start) [ inl low ↦ before_added spans xs s a low (old low) | inr high ↦ within_added spans xs s a high (same high) right ])
 
 -- a row added: its number follows, where its boundary holds the client
 one_row : (f : Boundary → Bool) (row : Boundary × ℕ) → numbers_of f (row ∷ []) ≡ number_if (f row.0) row.1

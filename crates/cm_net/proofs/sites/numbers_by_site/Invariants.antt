@@ -1,0 +1,6 @@
+use Rattle.std.proofs.Common.{take}
+use Rattle.cm_net.specs.Sites.{HasNumbersOf}
+use Rattle.cm_net.proofs.sites.numbers_by_site.Given as goal
+
+abbrev pub invariant-loop-boundary : goal.invariant-loop-boundary
+invariant-loop-boundary l = HasNumbersOf (take l.boundary-index l.rows) l.numbers
