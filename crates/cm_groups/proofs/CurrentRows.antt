@@ -1,4 +1,5 @@
 -- The rows of an index, and the groups that are current.
+use Rattle.std.proofs.Math.Bool.{and-false, or-false}
 use Rattle.std.proofs.Common.{◌≡◌, ℕ, zero, suc, ◌+◌, ◌<◌, ◌==◌, ◌&&◌, ◌||◌, Bool, true, false, cond, List, [], ◌∷◌, ◌++◌, All, map, filter, get_or, refl, sym, ap, ◌∙◌, arith, Option, None, Some, option_map}
 use Rattle.std.specs.List.{list_any, slice_get}
 use Rattle.std.specs.Option.{option_map_or}
@@ -25,21 +26,13 @@ abbrev pub has_one_from : (Boundary → Bool) → ℕ → List Group → ℕ →
 has_one_from holds first [] number = false
 has_one_from holds first (group ∷ groups) number = (first == number && has_one holds group) || has_one_from holds (first + 1) groups number
 
-pub and_false : (b : Bool) → (b && false) ≡ false
-and_false true = refl
-and_false false = refl
-
-pub or_false : (b : Bool) → (b || false) ≡ b
-or_false true = refl
-or_false false = refl
-
 absorbed : (a b : Bool) → (a || (a && b)) ≡ (a && true)
 absorbed true b = refl
 absorbed false b = refl
 
 one_group : (holds : Boundary → Bool) (first : ℕ) (boundaries : List Boundary) (number : ℕ)
     → has (numbers_of holds (map (λ boundary. (boundary, first)) boundaries)) number ≡ (first == number && list_any holds boundaries)
-one_group holds first [] number = sym (and_false (first == number))
+one_group holds first [] number = sym (and-false (first == number))
 one_group holds first (boundary ∷ boundaries) number =
     let rest = one_group holds first boundaries number in
     let kept : List (Boundary × ℕ) = filter (λ (row : Boundary × ℕ). holds row.0) (map (λ (each : Boundary). (each, first)) boundaries) in
@@ -71,7 +64,7 @@ none_before holds first (group ∷ groups) number h =
 one_at : (holds : Boundary → Bool) (first place number : ℕ) (groups : List Group) → number ≡ first + place → has_one_from holds first groups number ≡ passes (has_one holds) groups place
 one_at holds first place number [] e = refl
 one_at holds first zero number (group ∷ groups) e =
-    rw (eq-eqb first number (omega arith), none_before holds (first + 1) groups number (omega arith)) (or_false (has_one holds group))
+    rw (eq-eqb first number (omega arith), none_before holds (first + 1) groups number (omega arith)) (or-false (has_one holds group))
 one_at holds first (suc place) number (group ∷ groups) e =
     rw (ne_eqb first number (λ same. absurd (omega arith))) (one_at holds (first + 1) place number groups (omega arith))
 

@@ -16,7 +16,7 @@ use Rattle.cm_groups.specs.Current.{AreThose, passes}
 use Rattle.cm_groups.specs.Reach.{counts, is_default_reached, is_neighbour_reached, is_reached, leads_to, some_current}
 use Rattle.cm_groups.specs.Rows.{AreGroups, LeadsWithin}
 use Rattle.cm_groups.specs.Targets.{all_targets, others, targets}
-use Rattle.cm_groups.proofs.CurrentRows.{and_false, or_false}
+use Rattle.std.proofs.Math.Bool.{and-false, or-false}
 use Rattle.cm_groups.proofs.Has.{both_bools, has, has_same, Contains-from_has, has-from_Contains, passes_is}
 
 -- one relation more: z, the relation is to the default group; c, it counts; e, it is to the number; n, the number is 0
@@ -33,7 +33,7 @@ one_more false false false n l h same is = is
 targets_in : (elapsed : ℕ) (relations : List (ℕ × Fallback)) (number : ℕ)
     → has (map (λ relation. relation.0) (filter (λ relation. not (relation.0 == 0) && counts elapsed relation.1) relations)) number
     ≡ (not (number == 0) && list_any (λ relation. relation.0 == number && counts elapsed relation.1) relations)
-targets_in elapsed [] number = sym (and_false (not (number == 0)))
+targets_in elapsed [] number = sym (and-false (not (number == 0)))
 targets_in elapsed (relation ∷ relations) number =
     let first : ℕ × Fallback → ℕ = λ each. each.0 in
     let test : ℕ × Fallback → Bool = λ each. not (each.0 == 0) && counts elapsed each.1 in
@@ -47,7 +47,7 @@ targets_in elapsed (relation ∷ relations) number =
     (targets_in elapsed relations number)
 
 targets_have : (elapsed number : ℕ) (found : Option Group) → has (option_map_or (targets elapsed) found []) number ≡ (not (number == 0) && option_map_or (leads_to elapsed number) found false)
-targets_have elapsed number None = sym (and_false (not (number == 0)))
+targets_have elapsed number None = sym (and-false (not (number == 0)))
 targets_have elapsed number (Some group) = targets_in elapsed group.relations number
 
 distributed : (n a b : Bool) → ((n && a) || (n && b)) ≡ (n && (a || b))
@@ -55,7 +55,7 @@ distributed true a b = refl
 distributed false a b = refl
 
 all_have : (groups : List Group) (current : List ℕ) (elapsed number : ℕ) → has (all_targets groups current elapsed) number ≡ (not (number == 0) && some_current (leads_to elapsed number) groups current)
-all_have groups [] elapsed number = sym (and_false (not (number == 0)))
+all_have groups [] elapsed number = sym (and-false (not (number == 0)))
 all_have groups (one ∷ current) elapsed number =
     list_any-append (λ other. other == number) (option_map_or (targets elapsed) (slice_get groups one) []) (all_targets groups current elapsed)
     ∙ ap (λ (b : Bool). b || has (all_targets groups current elapsed) number) (targets_have elapsed number (slice_get groups one))
@@ -113,7 +113,7 @@ default_beside found number false = refl
 combined : (z d n h : Bool) → h ≡ (not z && n) → cond d (h || (z || false)) h ≡ cond z d n
 combined true true n h is = ap (λ (b : Bool). b || true) is
 combined true false n h is = is
-combined false true n h is = or_false h ∙ is
+combined false true n h is = or-false h ∙ is
 combined false false n h is = is
 
 -- the neighbours, and beside them the default group

@@ -2,6 +2,7 @@
 use Rattle.std.proofs.Common.{◌≡◌, ℕ, Bool, true, false, List, [], ◌∷◌, ◌++◌, None, Some, refl, sym, ap, ◌∙◌, cond, ◌||◌, arith}
 use Rattle.std.specs.List.{list_any}
 use Rattle.std.specs.Str.{bytes_eq}
+use Rattle.std.proofs.Math.Bool.{or-false}
 use Rattle.std.proofs.lemmas.Bool.{true≢false}
 use Rattle.std.proofs.lemmas.Cmp.{nat_list_eq_equiv}
 use Rattle.std.proofs.lemmas.Slice.Eq.{bytes_eq-Decides}
@@ -47,17 +48,13 @@ added rows xs new name true groups false is right was = rw is was
 added rows xs new name false groups true is right was = rw is (right refl)
 added rows xs new name false groups false is right was = is ∙ was
 
-or_false : (b : Bool) → (b || false) ≡ b
-or_false true = refl
-or_false false = refl
-
 pub site_added : (rows : List (Boundary × ℕ)) (names : List (List ℕ)) (xs new : List SiteGroups) (s : SiteGroups)
     → new ≡ xs ++ s ∷ []
     → IsRisingOf (numbers_of (λ boundary. holds_site boundary (Some s.name)) rows) s.groups.items
     → AreSitesOfSome rows names xs → AreSitesOfSome rows (names ++ s.name ∷ []) new
 site_added rows names xs new s is right was = λ name.
     let test : list_any (bytes_eq name) (names ++ s.name ∷ []) ≡ (list_any (bytes_eq name) names || bytes_eq name s.name) =
-    list_any-append (bytes_eq name) names (s.name ∷ []) ∙ ap (λ (b : Bool). list_any (bytes_eq name) names || b) (or_false (bytes_eq name s.name)) in
+    list_any-append (bytes_eq name) names (s.name ∷ []) ∙ ap (λ (b : Bool). list_any (bytes_eq name) names || b) (or-false (bytes_eq name s.name)) in
     let groups : groups_of_site new name ≡ cond (bytes_eq name s.name) s.groups.items (groups_of_site xs name) =
     ap (λ (ys : List SiteGroups). groups_of_site ys name) is ∙ groups_of_site-push xs s name in
     let here : (bytes_eq name s.name ≡ true → IsRisingOf (numbers_of (λ boundary. holds_site boundary (Some name)) rows) s.groups.items) =

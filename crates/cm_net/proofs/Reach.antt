@@ -20,6 +20,7 @@ use Rattle.std.specs.BTreeMap.{BTreeMap, get, IsOrdered}
 use Rattle.std.specs.Cmp.{nat_eq_equiv}
 use Rattle.std.specs.Ordering.{is_eq}
 use Rattle.std.proofs.Common.{Ordering, Equal, Greater}
+use Rattle.std.proofs.Math.Bool.{or_assoc, or-false}
 use Rattle.std.proofs.lemmas.Bool.{false≢true, leb-true, eqb-true, cond_both, cases_lt, le-leb, lt-leb}
 use Rattle.std.proofs.lemmas.List.{take-append-drop}
 use Rattle.std.proofs.lemmas.List.Elements.{All-head, All-tail}
@@ -42,23 +43,9 @@ holds xs a g = list_any (λ (s : Span). nat_eq g s.group && is_in a s) xs
 abbrev pub reaches : Option ℕ → ℕ → Bool
 reaches reach a = is_some (option_filter (leb a) reach)
 
-or_assoc : (x y z : Bool) → ((x || y) || z) ≡ (x || (y || z))
-or_assoc true y z = refl
-or_assoc false y z = refl
-
-or_false : (b : Bool) → (b || false) ≡ b
-or_false true = refl
-or_false false = refl
-
 some_if : (b : Bool) (n : ℕ) → is_some (cond b (Some n) None) ≡ b
 some_if true n = refl
 some_if false n = refl
-
-or_swap : (x y : Bool) → (x || y) ≡ (y || x)
-or_swap true true = refl
-or_swap true false = refl
-or_swap false true = refl
-or_swap false false = refl
 
 le_max : (a m n : ℕ) → leb a (max m n) ≡ (leb a n || leb a m)
 le_max a m n = elim (cases_lt n a) [
@@ -76,11 +63,11 @@ farther_reaches (Some reach) last a =
 
 step_reaches : (reach : Option ℕ) (s : Span) (a : ℕ) (here : Bool) → s.first ≤ a → reaches (cond here (farther reach s.last) reach) a ≡ (reaches reach a || (here && is_in a s))
 step_reaches reach s a true begun = rw (le-leb s.first a begun) (farther_reaches reach s.last a)
-step_reaches reach s a false begun = sym (or_false (reaches reach a))
+step_reaches reach s a false begun = sym (or-false (reaches reach a))
 
 reaches_from : (xs : List Span) (a g : ℕ) (reach : Option ℕ) → All (λ s. s.first ≤ a) xs
     → reaches (fold (λ reach (s : Span). cond (nat_eq g s.group) (farther reach s.last) reach) reach xs) a ≡ (reaches reach a || holds xs a g)
-reaches_from [] a g reach begun = sym (or_false (reaches reach a))
+reaches_from [] a g reach begun = sym (or-false (reaches reach a))
 reaches_from (s ∷ xs) a g reach begun =
     reaches_from xs a g (cond (nat_eq g s.group) (farther reach s.last) reach) (All-tail (λ (s : Span). s.first ≤ a) s xs begun)
     ∙ (ap (λ (b : Bool). b || holds xs a g) (step_reaches reach s a (nat_eq g s.group) (All-head (λ (s : Span). s.first ≤ a) s xs begun))
@@ -100,7 +87,7 @@ none_ahead (s ∷ xs) a g ahead =
 pub reach_at : (xs : List Span) (n a g : ℕ) → All (λ s. s.first ≤ a) (take n xs) → All (λ s. a < s.first) (drop n xs) → reaches (reach_of (take n xs) g) a ≡ holds xs a g
 reach_at xs n a g begun ahead =
     reaches_holds (take n xs) a g begun
-    ∙ (sym (or_false (holds (take n xs) a g))
+    ∙ (sym (or-false (holds (take n xs) a g))
     ∙ (ap (λ (b : Bool). holds (take n xs) a g || b) (sym (none_ahead (drop n xs) a g ahead))
     ∙ (sym (list_any-append (λ (s : Span). nat_eq g s.group && is_in a s) (take n xs) (drop n xs))
     ∙ ap (λ (ys : List Span). holds ys a g) (take-append-drop n xs))))

@@ -109,9 +109,6 @@ module _ (first : Six) (group next : ℕ → ℕ → ℕ → ℕ → Six) (limit
       let count : k + 1 ≡ suc k = omega arith in
       subst (λ (j : ℕ). Behind6 j text n) count (subst (λ (m : ℕ). Behind6 (k + 1) text m) (sym number) (subst (λ (t : List ℕ). Behind6 (k + 1) t (high * 65536 + low)) (sym is) rest))
 
-no_digit : hex_of 58 ≡ None
-no_digit = refl
-
 -- ---- from the start, and from the `::`
 
 step_digit : (s : Six) (b d : ℕ) → hex_of b ≡ Some d → step6 s b ≡ digit_at s.place s d

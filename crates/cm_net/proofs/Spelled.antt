@@ -7,10 +7,6 @@ use Rattle.cm_net.specs.Addresses.{decimal, hex_of, hex_from, IsPart, IsGroup, J
 use Rattle.cm_net.proofs.SixTexts.{hex_more}
 use Rattle.cm_net.specs.Spellings.{hex_digit, hex_digits, hex_count, hexadecimal, joined_text}
 
-pub digits_more : (k n : ℕ) → 0 < k → hex_digits k n ≡ hex_digits (k - 1) (n / 16) ++ hex_digit (n % 16) ∷ []
-digits_more zero n some = absurd (omega (arith, some))
-digits_more (suc k) n some = let same : suc k - 1 ≡ k = omega arith in rw same refl
-
 pub joined_again : (item : ℕ → List ℕ) (sep base k n : ℕ) → 1 < k → joined_text item sep base k n ≡ joined_text item sep base (k - 1) (n / base) ++ sep ∷ item (n % base)
 joined_again item sep base zero n some = absurd (omega (arith, some))
 joined_again item sep base (suc zero) n some = absurd (omega (arith, some))

@@ -1,5 +1,5 @@
 -- The outcome behind a part of the faults.
-use Rattle.std.proofs.Common.{◌≡◌, ℕ, List, [], ◌∷◌, ◌++◌, Some, None, Result, Err}
+use Rattle.std.proofs.Common.{◌≡◌, ℕ, List, [], ◌∷◌, ◌++◌, None, Result, Err}
 use Rattle.cm_topo.specs.declared.placed.Placed.{Placed}
 use Rattle.cm_topo.specs.declared.trouble.Trouble.{Trouble}
 use Rattle.cm_topo.specs.declared.trouble.Trouble.TheVariants.{Shape, Broken}
@@ -13,11 +13,6 @@ pub gives_later : (xs ys : List Placed) (answer : Result Topology Stop) (topolog
     → Gives answer (unless_faulty ys topology) → Gives answer (unless_faulty (xs ++ ys) topology)
 gives_later [] ys answer topology none later = later
 gives_later (x ∷ xs) ys answer topology none later = absurd (cc)
-
--- the first fault stands before
-pub gives_first : (xs ys : List Placed) (topology : Topology) (fault : Placed) → first xs ≡ Some fault → unless_faulty (xs ++ ys) topology ≡ Err (fault_of fault)
-gives_first [] ys topology fault some = absurd (cc)
-gives_first (x ∷ xs) ys topology fault some = let e : x ≡ fault = cc in cc
 
 says_trouble : (bytes : List ℕ) (trouble : Trouble) (part entry : ℕ) → Comes bytes (Err (fault_from trouble part entry)) → Says bytes (Err (fault_from trouble part entry))
 says_trouble bytes Shape part entry come = come
