@@ -4,6 +4,8 @@
 mod rule;
 mod seat;
 mod steps;
+#[cfg(test)]
+mod tests;
 mod told;
 mod turnstile;
 

@@ -1,5 +1,6 @@
 //! The steps of a turnstile.
 ghost use Rattle.std.specs.Prelude.{◌≡◌, [], ◌∷◌, ◌++◌, List, None, Some, MatchBool, ◌<◌, ◌%◌, ◌-◌, ◌^◌};
+ghost use Rattle.cm_turn.specs.Lists.{IsInterleaving, IsOrdered};
 ghost use Rattle.cm_turn.specs.Views.{view_after_split, newcomer, view_after_join, view_at_turn, view_after_turn};
 ghost use Rattle.cm_turn.specs.Turns.{Holds, Took};
 
@@ -7,7 +8,11 @@ use crate::rule::{AllParts, GivesBack, OnePart, TakesTurn};
 use crate::seat::Place;
 use crate::told::Told;
 use crate::turnstile::Turnstile;
+use std::hint;
 use std::sync::Wait;
+
+/// How often a thread looks whether the turn is free before it sleeps.
+const LOOKS: u32 = 100;
 
 impl<T: Told> Turnstile<T> {
     // Tries once to take the turn, where the word is the one given.
@@ -25,6 +30,18 @@ impl<T: Told> Turnstile<T> {
         found == word
     }
 
+    // The word as it was last found: even as soon as the turn is free, odd after so many looks.
+    fn look(&self) -> u64 {
+        for _ in 0..LOOKS {
+            let word = self.table.shared.peek(0);
+            if word % 2 == 0 {
+                return word;
+            }
+            hint::spin_loop();
+        }
+        self.table.shared.peek(0)
+    }
+
     /// Takes the turn, and the value out of the slot. Waits while another seat holds the turn.
     pub(crate) fn take<R: Wait>(&self, rt: &R, place: &mut Place<T>) -> T
         requires here { place.old.table_id ≡ self.now }
@@ -33,7 +50,7 @@ impl<T: Told> Turnstile<T> {
         ensures took { (place.new.me ≡ (view_at_turn place.old.me.0 (T.told result), (0, None) ∷ [])) × Holds T.start T.told place.old.me.0 result }
     {
         for _ in rt.forever() {
-            let word = self.table.shared.peek(0);
+            let word = self.look();
             if word % 2 == 1 {
                 // Sleeps while the low 32 bits of the word are these.
                 self.table.shared.park(rt, 0, (word % 4_294_967_296) as u32);
@@ -77,8 +94,10 @@ impl<T: Told> Turnstile<T> {
         requires here { (place.old.table_id ≡ self.now) × (other.table_id ≡ self.now) }
         requires idle { (place.old.me.0.turn ≡ None) × (0 < place.old.me.0.parts) }
         requires other_idle { (other.me.1 ≡ []) × (other.me.0.turn ≡ None) × (0 < other.me.0.parts) }
+        requires ordered { IsOrdered 0 place.old.me.0.own × IsOrdered 0 other.me.0.own }
         ensures here { place.new.table_id ≡ place.old.table_id }
         ensures joined { place.new.me ≡ (view_after_join place.old.me.0 other.me.0, place.old.me.1) }
+        ensures own { IsOrdered 0 place.new.me.0.own × IsInterleaving place.old.me.0.own other.me.0.own place.new.me.0.own }
     {
         self.table.shared.join_seat::<AllParts>(place, other);
     }

@@ -1,4 +1,5 @@
 use Rattle.std.proofs.Common.{arith, sym, ◌∙◌}
+use Rattle.cm_turn.proofs.Merging.{ordered_merge, merge_interleaves}
 use Rattle.cm_turn.proofs.Moves.{joins}
 use Rattle.cm_turn.proofs.turnstile.Turnstile.take_over.Goals as goal
 
@@ -15,3 +16,10 @@ join_seat-requires g c =
       omega (arith, sized.0),
       joins g.T.Told.start g.T.Told.told (g.T.Told.start c.self.inside.table.shared.key.value) place.id place.me.0 other.id other.me.0 idle.1 other_idle.2 idle.0 other_idle.1,
     )
+
+pub returns-clause-own : goal.returns-clause-own
+returns-clause-own g c =
+    let mine = c.args.place.now.me.0.own in
+    let other = c.args.other.me.0.own in
+    let ordered = c.requires.ordered in
+    rw c.join_seat.ensures.2 (ordered_merge 0 mine other ordered.0 ordered.1, merge_interleaves 0 mine other ordered.1)
