@@ -21,6 +21,3 @@ pub use line::Line;
 pub use reply::{Ended, Refusal, Reply};
 pub use running::run;
 pub use words::read_words;
-
-#[cfg(test)]
-mod tests;

@@ -1,9 +1,11 @@
 //! `cmsite <base> <folder> <words>`: the commands over the real files below `base`.
 #![tactic(auto)]
 
+mod base;
 mod clock;
 mod input;
 mod output;
+mod site_disk;
 mod start;
 
 use crate::start::start;

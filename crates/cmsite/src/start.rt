@@ -2,12 +2,14 @@
 ghost use Rattle.std.specs.Prelude.{◌≡◌, IfOk, string_bytes};
 ghost use Rattle.cmsite.specs.Arguments.{texts, base_in, folder_in, words_in, site_in};
 
+use crate::base::Base;
 use crate::clock::minute;
 use crate::input::HostSource;
 use crate::output::HostSink;
+use crate::site_disk::SiteDisk;
 use cm_base::{Memory, ServerName};
 use cm_disk::HostDisk;
-use cm_top::{Bay, run};
+use cm_top::{Bay, Line, read_words, run};
 use cm_tree::HostFolder;
 use std::alloc::Global;
 use std::{env, io};
@@ -66,6 +68,11 @@ fn site_folder(alloc: Global, base: &str) -> Result<String, Memory>
     Ok(path)
 }
 
+// Only `init` makes a base folder.
+fn makes_base(alloc: Global, words: &[String]) -> bool {
+    matches!(read_words(alloc, words), Ok(Line::Init { .. }))
+}
+
 /// Runs the command of the arguments, and answers its status. The first argument is the base folder, the second one the
 /// folder that is added from; with fewer than two there are no words.
 pub(crate) fn start(rt: &HostRuntime) -> Result<u8, Memory> {
@@ -74,10 +81,12 @@ pub(crate) fn start(rt: &HostRuntime) -> Result<u8, Memory> {
     let Some(name) = ServerName::read(b"site") else {
         unreachable!()
     };
-    let disk = HostDisk::new(
-        rt.clone()?,
-        site_folder(alloc, base_of(&arguments))?.as_str(),
-    )?;
+    let path = base_of(&arguments);
+    let disk = SiteDisk {
+        base: Base::take(rt, path, makes_base(alloc, words_of(&arguments))),
+        disk: HostDisk::new(rt.clone()?, site_folder(alloc, path)?.as_str())?,
+        count: 0,
+    };
     let mut folder = HostFolder::new(rt.clone()?, folder_of(&arguments))?;
     let mut bays = Vec::new(alloc);
     bays.push(Bay { name, disk })?;

@@ -1,5 +1,5 @@
 //! What is answered where a bay holds no library.
-use crate::tests::fakes::{lay, ran};
+use crate::fakes::{lay, ran};
 use cm_disk::MemDisk;
 use std::alloc::Global;
 use std::process::Abort;

@@ -1,6 +1,6 @@
 //! The command `list`.
-use crate::tests::add::{LOG, MANIFEST};
-use crate::tests::fakes::{lay, ran};
+use crate::add::{LOG, MANIFEST};
+use crate::fakes::{lay, ran};
 use cm_base::Place;
 use cm_disk::{Disk, MemDisk};
 use std::test::Fail;

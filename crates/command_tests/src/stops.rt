@@ -1,5 +1,5 @@
 //! What a stop leaves.
-use crate::tests::fakes::ran;
+use crate::fakes::ran;
 use cm_disk::MemDisk;
 use std::alloc::Global;
 use std::process::Abort;

@@ -1,7 +1,7 @@
 //! What the tests hand to `run`.
-use crate::{Bay, run};
 use cm_base::{MemSink, MemSource, Place, ServerName};
 use cm_disk::Disk;
+use cm_top::{Bay, run};
 use cm_tree::{Folder, MemFolder};
 use std::alloc::Global;
 use std::process::Abort;

@@ -1,5 +1,5 @@
 //! The command `add`.
-use crate::tests::fakes::{folder_of, holds, ran, ran_over};
+use crate::fakes::{folder_of, holds, ran, ran_over};
 use cm_base::Place;
 use cm_disk::{Disk, MemDisk};
 use cm_tree::MemFolder;

@@ -1,5 +1,5 @@
 //! The command `init`, and refused words.
-use crate::tests::fakes::{holds, ran};
+use crate::fakes::{holds, ran};
 use cm_disk::{Disk, MemDisk};
 use std::test::Fail;
 

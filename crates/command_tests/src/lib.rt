@@ -1,0 +1,17 @@
+//! The commands over disks in memory: texts, statuses and bytes by values from outside, and what a crash leaves.
+//!
+//! The tests of a crate stand in a crate of their own, since a crate with tests is proved twice.
+#![tactic(auto)]
+
+#[cfg(test)]
+mod add;
+#[cfg(test)]
+mod fakes;
+#[cfg(test)]
+mod init;
+#[cfg(test)]
+mod list;
+#[cfg(test)]
+mod stops;
+#[cfg(test)]
+mod unreadable;

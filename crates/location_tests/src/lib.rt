@@ -1,0 +1,4 @@
+//! Boundaries, groups, peers, points, locations and topologies by values from outside.
+//!
+//! The tests of a crate stand in a crate of their own, since a crate with tests is proved twice.
+#![tactic(auto)]
