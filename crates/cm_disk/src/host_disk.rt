@@ -55,6 +55,8 @@ impl<R: Files<File = File> + AllocGlobal + Clone + Drop> Disk for HostDisk<R> {
 
     ghost as_it_reads = { λ disk files is place. tt };
 
+    ghost some_image = { λ disk. ((λ place. None), (λ place. tt)) };
+
     ghost short = { λ disk files place is. untold files is };
 
     fn size(&mut self, place: &Place) -> Result<Option<u64>, DiskFault> {

@@ -8,7 +8,7 @@ ghost use Rattle.std.specs.BTreeMap.{get};
 ghost use Rattle.cm_base.specs.Causes.{HasCause, Rose};
 ghost use Rattle.cm_disk.specs.Stands.{worked};
 ghost use Rattle.cm_disk.specs.Slots.{CanDo, stand_in, stand_of, is_listed};
-ghost use Rattle.cm_disk.specs.Recorded.{calls_of, files_of, number_of, is_failing, faults_of, short_of, raised, FailsExactly};
+ghost use Rattle.cm_disk.specs.Recorded.{calls_of, files_of, number_of, is_failing, faults_of, short_of, raised, FailsExactly, IsRecorded};
 
 use crate::DiskFault;
 use crate::calls::{Call, Slot, Work};
@@ -116,20 +116,33 @@ impl MemDisk {
         ensures err { OnErr result ((self.new.calls.items ≡ self.old.calls.items) ⊎ (self.new.calls.items ≡ self.old.calls.items ++ record { place = place.now; work = work; done = false } ∷ [])) }
         ensures cause { HasCause self.old.faults self.new.faults result }
         ensures exact { FailsExactly self.old self.new result }
+        ensures recorded { IsRecorded self.old self.new place.now (λ w. w ≡ work) result }
     {
         let done = !self.fails();
-        let call = Call {
-            place: *place,
-            work,
-            done,
-        };
-        if !joined(self.alloc, &mut self.slots, &mut self.calls, call) {
+        if !self.add(place, work, done) {
             return Err(self.lack());
         }
         if !done {
             return Err(self.fault());
         }
         Ok(())
+    }
+
+    // A call joins the record. False for want of memory: then nothing is changed.
+    pub(crate) fn add(&mut self, place: &Place, work: Work, done: bool) -> bool
+        requires can { CanDo work }
+        ensures calls { self.new.calls.items ≡ (if result then self.old.calls.items ++ record { place = place.now; work = work; done = done } ∷ [] else self.old.calls.items) }
+        ensures number { number_of self.new ≡ number_of self.old }
+        ensures listed { (number : ℕ) → is_failing self.new number ≡ is_failing self.old number }
+        ensures short { short_of self.new ≡ short_of self.old }
+        ensures faults { faults_of self.new ≡ faults_of self.old }
+    {
+        let call = Call {
+            place: *place,
+            work,
+            done,
+        };
+        joined(self.alloc, &mut self.slots, &mut self.calls, call)
     }
 }
 

@@ -1,7 +1,7 @@
 //! Work on what a disk in memory keeps of one place.
 ghost use Rattle.std.specs.Prelude.{◌≡◌, ◌+◌, ◌^◌, ◌≤◌, ◌∷◌, true, false, if◌then◌else◌, length, take, Some, IfOk, IfErr};
 ghost use Rattle.cm_disk.specs.Disk.{overwritten};
-ghost use Rattle.cm_disk.specs.Stands.{absent, span_of_write, worked};
+ghost use Rattle.cm_disk.specs.Stands.{absent, touched_by_write, worked};
 ghost use Rattle.cm_disk.specs.Slots.{file_of, stand_of, stand_of_option, CanDo};
 
 use crate::calls::{Slot, Span, Work};
@@ -75,17 +75,33 @@ fn copied_over(alloc: Global, old: &[u8], offset: u64, bytes: &[u8]) -> Result<V
     Ok(made)
 }
 
-fn span_of(file: &Option<Vec<u8>>, offset: u64, count: usize) -> Span
+// The ranges that are touched after a write. An empty one touches nothing of a file that is there.
+fn touched_after(
+    alloc: Global,
+    slot: &Slot,
+    offset: u64,
+    count: usize,
+) -> Result<Vec<Span>, AllocError>
     requires { offset + count ≤ 2 ^ 40 + 131072 }
-    ensures { result ≡ span_of_write (file_of file.now) offset count }
+    ensures { IfOk result (λ more. more.items ≡ touched_by_write (file_of slot.now.file) offset count slot.now.touched.items) }
 {
-    match file {
-        Some(_) => Span {
-            from: offset,
-            to: Some(offset + count as u64),
-        },
-        None => Span { from: 0, to: None },
+    if slot.file.is_none() {
+        return touched_more(alloc, Span { from: 0, to: None }, &slot.touched);
     }
+    if count == 0 {
+        return spans_of(alloc, &slot.touched);
+    }
+    let span = Span {
+        from: offset,
+        to: Some(offset + count as u64),
+    };
+    touched_more(alloc, span, &slot.touched)
+}
+
+fn spans_of(alloc: Global, touched: &[Span]) -> Result<Vec<Span>, AllocError>
+    ensures { IfOk result (λ copy. copy.items ≡ touched.now) }
+{
+    touched.to_vec(alloc)
 }
 
 fn write_slot(
@@ -99,8 +115,7 @@ fn write_slot(
     ensures made { IfOk result (λ made. stand_of made ≡ worked (Work.Write offset bytes.now) done (stand_of slot)) }
     ensures back { IfErr result (λ back. stand_of back ≡ stand_of slot) }
 {
-    let span = span_of(&slot.file, offset, bytes.len());
-    let Ok(more) = touched_more(alloc, span, &slot.touched) else {
+    let Ok(more) = touched_after(alloc, &slot, offset, bytes.len()) else {
         return Err(slot);
     };
     let Slot {
