@@ -6,7 +6,7 @@ use Rattle.std.proofs.lemmas.Bool.Decides.{nat_tests}
 use Rattle.cm_disk.specs.declared.calls.Span.{Span}
 use Rattle.cm_disk.specs.Disk.{File, bytes_of, byte_at}
 use Rattle.cm_disk.specs.Images.{Stand, is_touched, IsLeft}
-use Rattle.cm_disk.specs.Stands.{touched_by_write}
+use Rattle.cm_disk.specs.Stands.{span_of_write, with_span}
 
 -- a list with another number at one place
 patched : List ℕ → ℕ → ℕ → List ℕ
@@ -94,14 +94,14 @@ sure_after s t i byte h same_durable same_removed out file left = by file left
         clash removed = let k : s.removed ≡ false = h.kept in absurd (cc)
 
 -- the range of a write to a file that is there, and of a cut
-pub outside_write : (now : File) (offset count i : ℕ) (spans : List Span) → is_some now ≡ true → (i < offset) ⊎ (offset + count ≤ i) → is_touched spans i ≡ false → is_touched (touched_by_write now offset count spans) i ≡ false
+pub outside_write : (now : File) (offset count i : ℕ) (spans : List Span) → is_some now ≡ true → (i < offset) ⊎ (offset + count ≤ i) → is_touched spans i ≡ false → is_touched (with_span (span_of_write now offset count) spans) i ≡ false
 outside_write None offset count i spans there which out = absurd (cc)
 outside_write (Some old) offset count i spans there which out = by (count == 0)
   where
     apart : is_touched (record { from = offset; to = Some (offset + count) } ∷ spans) i ≡ false
     apart = ⊎_elim (λ lt. grind (arith, nat_tests)) (λ le. grind (arith, nat_tests)) which
 
-    by : (empty : Bool) → is_touched (if empty then spans else record { from = offset; to = Some (offset + count) } ∷ spans) i ≡ false
+    by : (empty : Bool) → is_touched (with_span (if empty then None else Some (record { from = offset; to = Some (offset + count) })) spans) i ≡ false
     by true = out
     by false = apart
 

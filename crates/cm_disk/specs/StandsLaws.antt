@@ -1,4 +1,4 @@
--- The laws of a record of calls.
+-- What the laws of a disk in memory name, of a record of calls.
 use Rattle.std.specs.Prelude.{◌≡◌, ◌⊎◌, ℕ, ◌+◌, ◌^◌, ◌<◌, ◌≤◌, ◌==◌, Bool, true, false, if◌then◌else◌, ◌&&◌, ◌||◌, nat_le, nat_lt, List, [], ◌∷◌, ◌++◌, length, take, drop, None, Some, slice_get}
 use Rattle.std.specs.Str.{bytes_eq}
 use Rattle.std.proofs.Common.{inl, inr, zero, suc, refl, sym, ◌∙◌, ap, subst, arith}
@@ -12,7 +12,7 @@ use Rattle.cm_disk.specs.declared.calls.Work.TheVariants.{Write, Cut, Remove, Sy
 use Rattle.cm_disk.specs.declared.calls.Call.{Call}
 use Rattle.cm_disk.specs.Disk.{File, Files, overwritten, written, IsImage, bytes_of}
 use Rattle.cm_disk.specs.Images.{Stand, is_touched, IsLeft}
-use Rattle.cm_disk.specs.Stands.{absent, IsSmall, touched_by_write, cut_stand, removed_stand, worked, step, after, stand_after, files_after, left_after, LeftSince}
+use Rattle.cm_disk.specs.Stands.{absent, IsSmall, span_of_write, with_span, cut_stand, removed_stand, worked, step, after, stand_after, files_after, left_after, LeftSince}
 
 pub counts : (calls : List Call) (t : ℕ) (files : Files) → t ≤ length calls → IsImage (left_after calls) files → LeftSince calls t files
 counts calls t files le image = record {
@@ -104,7 +104,7 @@ over_nothing old [] offset none =
 over_nothing old (byte ∷ bytes) offset none = absurd (omega arith)
 
 write_reads : (s : Stand) (now x : File) (offset : ℕ) (bytes : List ℕ) → IsLeft s now
-    → IsLeft (record { now = x; durable = s.durable; touched = touched_by_write now offset (length bytes) s.touched; removed = s.removed }) (written offset bytes now)
+    → IsLeft (record { now = x; durable = s.durable; touched = with_span (span_of_write now offset (length bytes)) s.touched; removed = s.removed }) (written offset bytes now)
 write_reads s None x offset bytes h = record {
   clean = λ e. absurd (cc);
   absent = λ e. absurd (cc);
@@ -115,7 +115,7 @@ write_reads s None x offset bytes h = record {
     nothing i lt = omega arith
 write_reads s (Some old) x offset bytes h = by (length bytes == 0) refl
   where
-    by : (empty : Bool) → (length bytes == 0) ≡ empty → IsLeft (record { now = x; durable = s.durable; touched = (if empty then s.touched else record { from = offset; to = Some (offset + length bytes) } ∷ s.touched); removed = s.removed }) (Some (overwritten old offset bytes))
+    by : (empty : Bool) → (length bytes == 0) ≡ empty → IsLeft (record { now = x; durable = s.durable; touched = with_span (if empty then None else Some (record { from = offset; to = Some (offset + length bytes) })) s.touched; removed = s.removed }) (Some (overwritten old offset bytes))
     by true is =
         let none : length bytes ≡ 0 = grind (arith, nat_tests, is) in
         subst (λ (l : List ℕ). IsLeft (record { now = x; durable = s.durable; touched = s.touched; removed = s.removed }) (Some l)) (sym (over_nothing old bytes offset none)) (record { clean = h.clean; absent = h.absent; bytes = h.bytes })
@@ -125,11 +125,11 @@ write_reads s (Some old) x offset bytes h = by (length bytes == 0) refl
       bytes = λ there i byte out is. kept_outside old bytes offset i byte (outside_first offset i (offset + length bytes) s.touched out) (h.bytes refl i byte (outside_others (record { from = offset; to = Some (offset + length bytes) }) s.touched i out) is);
     }
 
-failed_write : (s : Stand) (now : File) (offset count : ℕ) → IsLeft s now → IsLeft (record { now = now; durable = s.durable; touched = touched_by_write now offset count s.touched; removed = s.removed }) now
+failed_write : (s : Stand) (now : File) (offset count : ℕ) → IsLeft s now → IsLeft (record { now = now; durable = s.durable; touched = with_span (span_of_write now offset count) s.touched; removed = s.removed }) now
 failed_write s None offset count h = touched_more s None None (record { from = 0; to = None }) s.removed h.absent h
 failed_write s (Some old) offset count h = by (count == 0)
   where
-    by : (empty : Bool) → IsLeft (record { now = Some old; durable = s.durable; touched = (if empty then s.touched else record { from = offset; to = Some (offset + count) } ∷ s.touched); removed = s.removed }) (Some old)
+    by : (empty : Bool) → IsLeft (record { now = Some old; durable = s.durable; touched = with_span (if empty then None else Some (record { from = offset; to = Some (offset + count) })) s.touched; removed = s.removed }) (Some old)
     by true = record { clean = h.clean; absent = h.absent; bytes = h.bytes }
     by false = touched_more s (Some old) (Some old) (record { from = offset; to = Some (offset + count) }) s.removed h.absent h
 

@@ -1,7 +1,8 @@
 //! The real files below one folder, as a disk.
 ghost use Rattle.std.specs.Prelude.{◌≡◌, ◌≤◌, ⊤, None, IfOk};
 ghost use Rattle.cm_base.specs.Causes.{Rose};
-ghost use Rattle.cm_disk.specs.Unknown.{Unknown, unknown, untold};
+ghost use Rattle.cm_disk.specs.Unknown.{Unknown};
+ghost use Rattle.cm_disk.specs.UnknownLaws.{unknown, untold};
 
 use crate::host::Host;
 use crate::{Disk, DiskFault};

@@ -6,6 +6,7 @@ ghost use Rattle.std.specs.Ordering.{nat_cmp};
 ghost use Rattle.std.specs.Cmp.Lexicographic.{slice_cmp};
 ghost use Rattle.std.specs.BTreeMap.{get};
 ghost use Rattle.cm_base.specs.Causes.{HasCause, Rose};
+ghost use Rattle.cm_disk.specs.Images.{IsLeft};
 ghost use Rattle.cm_disk.specs.Stands.{worked};
 ghost use Rattle.cm_disk.specs.Slots.{CanDo, stand_in, stand_of, is_listed};
 ghost use Rattle.cm_disk.specs.Recorded.{calls_of, files_of, number_of, is_failing, faults_of, short_of, raised, FailsExactly, IsRecorded};
@@ -13,7 +14,7 @@ ghost use Rattle.cm_disk.specs.Recorded.{calls_of, files_of, number_of, is_faili
 use crate::DiskFault;
 use crate::calls::{Call, Slot, Work};
 use crate::memory::MemDisk;
-use crate::slots::{absent_slot, kept_slot, worked_slot};
+use crate::slots::{absent_slot, kept_slot, work_on};
 use cm_base::{Memory, Place};
 use std::alloc::Global;
 use std::collections::BTreeMap;
@@ -153,7 +154,8 @@ fn joined(
     calls: &mut Vec<Call>,
     call: Call,
 ) -> bool
-    requires { CanDo call.work }
+    requires can { CanDo call.work }
+    requires reads { IsLeft (stand_in slots.old call.place) (stand_in slots.old call.place).now }
     ensures calls { calls.new.items ≡ (if result then calls.old.items ++ call ∷ [] else calls.old.items) }
     ensures here { IsTrue result → (q : List ℕ) → stand_in slots.new q ≡ (if bytes_eq call.place q then worked call.work call.done (stand_in slots.old call.place) else stand_in slots.old q) }
     ensures same { result ≡ false → (q : List ℕ) → stand_in slots.new q ≡ stand_in slots.old q }
@@ -165,16 +167,13 @@ fn joined(
     let Ok(kept) = slots.insert(place, absent_slot(alloc)) else {
         return false;
     };
-    match worked_slot(alloc, kept_slot(alloc, kept), &call.work, call.done) {
-        Ok(slot) => {
-            put_back(slots, place, slot);
-            calls.push(call).is_ok()
-        }
-        Err(slot) => {
-            put_back(slots, place, slot);
-            false
-        }
+    let mut slot = kept_slot(alloc, kept);
+    let is_done = work_on(alloc, &mut slot, &call.work, call.done);
+    put_back(slots, place, slot);
+    if !is_done {
+        return false;
     }
+    calls.push(call).is_ok()
 }
 
 // Keeps a slot of a place that has one.
