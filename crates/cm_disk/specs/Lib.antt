@@ -4,6 +4,8 @@ pub mod Images
 pub mod Ranks
 pub mod Recorded
 pub mod Slots
+pub mod SlotsLaws
 pub mod Stands
 pub mod StandsLaws
 pub mod Unknown
+pub mod UnknownLaws
