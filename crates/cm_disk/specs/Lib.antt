@@ -1,4 +1,5 @@
 pub mod Disk
+pub mod Hashed
 pub mod HostNames
 pub mod Images
 pub mod Ranks
@@ -7,3 +8,4 @@ pub mod Slots
 pub mod Stands
 pub mod StandsLaws
 pub mod Unknown
+pub mod Walks
