@@ -1,4 +1,5 @@
 pub mod Disk
+pub mod Hashed
 pub mod HostNames
 pub mod Images
 pub mod Ranks
@@ -9,3 +10,4 @@ pub mod Stands
 pub mod StandsLaws
 pub mod Unknown
 pub mod UnknownLaws
+pub mod Walks
