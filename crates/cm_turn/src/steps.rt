@@ -72,10 +72,10 @@ impl<T: Told> Turnstile<T> {
         ensures here { place.new.table_id ≡ place.old.table_id }
         ensures given { place.new.me ≡ (view_after_turn place.old.me.0 (T.told value), []) }
     {
-        let word = 2 * value.bounded();
+        let count = value.bounded();
         let hole = self.table.shared.exchange(place, 0, Some(value));
         let None = hole else { unreachable!() };
-        self.table.shared.store::<GivesBack>(place, 0, word);
+        self.table.shared.store::<GivesBack>(place, 0, 2 * count);
         self.table.shared.wake_one(0);
     }
 

@@ -10,6 +10,6 @@ store-requires g c =
     let more = c.requires.more in (
       e.0 ∙ c.requires.here ∙ sym c.self.view_is,
       omega (arith, sized.0),
-      rw (sized.1, e.3, turn.0, c.bounded-word.ensures.count)
+      rw (sized.1, e.3, turn.0, c.bounded-count.ensures.count)
           (gives_turn g.T.Told.start g.T.Told.told (g.T.Told.start c.self.inside.table.shared.key.value) c.exchange-hole.new.seat.id c.args.place.now.me.0 more.0 more.1 c.args.value turn.1 more.2 turn.2 more.3),
     )
