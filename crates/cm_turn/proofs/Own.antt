@@ -1,7 +1,7 @@
 -- What holds of each own entry of the seats holds of each entry of the list.
-use Rattle.std.proofs.Common.{◌≡◌, ℕ, suc, List, [], ◌∷◌, ◌++◌, length, drop, Some, sym, ap, ◌∙◌, subst}
+use Rattle.std.proofs.Common.{◌≡◌, ℕ, suc, List, [], ◌∷◌, ◌++◌, length, drop, sym, ap, ◌∙◌, subst}
 use Rattle.std.proofs.Math.Seq.{drop-append_seam}
-use Rattle.cm_turn.specs.Lists.{Each, placed_from, merge_of}
+use Rattle.cm_turn.specs.Lists.{Each, placed_from}
 use Rattle.cm_turn.specs.Views.{view_at_turn, view_after_turn, view_after_join}
 use Rattle.cm_turn.specs.Turns.{Closes}
 use Rattle.cm_turn.specs.declared.rule.View.{View}
