@@ -1,44 +1,27 @@
--- The first place in order is the least.
-use Rattle.std.proofs.Common.{rules, ◌≡◌, ◌⊎◌, inl, inr, ⊎_elim, ℕ, ◌<◌, List, length, get_or, refl, sym, ◌∙◌, ap, subst, arith}
-use Rattle.std.specs.Prelude.{Bool, true, false, ◌&&◌, Option, Some, None, is_some, slice_get}
-use Rattle.std.specs.Ordering.{nat_cmp}
-use Rattle.std.specs.Cmp.{IsTotalOrder}
-use Rattle.std.specs.Cmp.Rules.{comparing}
+-- The least place above another, step by step.
+use Rattle.std.proofs.Common.{◌≡◌, ◌⊎◌, inl, inr, ⊎_elim, ℕ, ◌<◌, List, ◌∷◌, [], get_or, refl, sym, ◌∙◌, ap, subst, arith}
+use Rattle.std.specs.Prelude.{Bool, true, false, Option, Some, None, IsSome, IfSome, is_some, slice_get}
+use Rattle.std.specs.Ordering.{nat_cmp, is_lt, is_gt}
 use Rattle.std.specs.Cmp.Lexicographic.{slice_cmp}
-use Rattle.std.specs.declared.cmp.Ordering.TheVariants.{Less}
+use Rattle.std.specs.declared.cmp.Ordering.{Ordering}
+use Rattle.std.specs.declared.cmp.Ordering.TheVariants.{Less, Equal, Greater}
+use Rattle.std.specs.declared.ops.Bound.TheVariants.{Unbounded}
 use Rattle.std.specs.Map.{keys_of}
 use Rattle.std.specs.Prelude.{Vec}
 use Rattle.std.specs.declared.alloc.Global.{Global}
-use Rattle.std.specs.BTreeMap.{BTreeMap, get, is_at, IsOrdered}
-use Rattle.std.proofs.lemmas.Bool.{cases_eq, cases_lt}
-use Rattle.std.proofs.lemmas.Option.{none-some, same_Some, slice_get-map, slice_get_within, get_or_from_slice_get}
+use Rattle.std.specs.BTreeMap.{BTreeMap, get, IsOrdered}
+use Rattle.std.specs.BTreeMap.Range.{IsInRange, IsEntryInRange, IsLeBy, IsRangeOf}
+use Rattle.std.proofs.lemmas.Option.{same_Some, slice_get-map, slice_get_within, get_or_from_slice_get}
 use Rattle.std.proofs.lemmas.Map.Keys.{Less-from_sorted}
 use Rattle.std.proofs.lemmas.Map.Lookups.{exact_bytes}
-use Rattle.std.proofs.lemmas.Map.Entries.{place_from_lookup, btree_map_get_place, length-keys_of}
+use Rattle.std.proofs.lemmas.Map.Entries.{length-keys_of}
 use Rattle.cm_disk.specs.declared.calls.Slot.{Slot}
-use Rattle.cm_disk.specs.Disk.{Files, is_above, IsNext}
-use Rattle.cm_disk.specs.Slots.{file_of, stand_in, stand_of_option}
-use Rattle.cm_disk.proofs.Joined.{is_equal}
-
-abbrev pub is_candidate : Option (List ℕ) → List ℕ × Slot → Bool
-is_candidate after e = is_some (file_of e.1.file) && is_above after e.0
-
-total : IsTotalOrder (slice_cmp nat_cmp)
-total = search (comparing, rules)
+use Rattle.cm_disk.specs.Disk.{Files, is_above}
+use Rattle.cm_disk.specs.Slots.{file_of, stand_in, stand_of_option, bound_above, IsNextKept}
+use Rattle.cm_disk.proofs.Rises.{less_is, above_above}
 
 abbrev pub Slots : Type 0
 Slots = BTreeMap (List ℕ) Slot
-
--- a place that is there is the key of an entry
-found : (m : Slots) (q : List ℕ) → is_some (stand_in m q).now ≡ true → (i : ℕ) × (slot : Slot) × (slice_get m.entries i ≡ Some (q, slot)) × (is_some (file_of slot.file) ≡ true)
-found m q there = by (get (slice_cmp nat_cmp) m q) refl
-  where
-    by : (o : Option Slot) → get (slice_cmp nat_cmp) m q ≡ o → (i : ℕ) × (slot : Slot) × (slice_get m.entries i ≡ Some (q, slot)) × (is_some (file_of slot.file) ≡ true)
-    by None is = let f : is_some (stand_in m q).now ≡ false = ap (λ (o : Option Slot). is_some (stand_of_option o).now) is in absurd (cc)
-    by (Some slot) is =
-        let at = place_from_lookup (is_at (slice_cmp nat_cmp q)) m.entries slot is in
-        let same : q ≡ at.1 = exact_bytes q at.1 (is_equal _ at.3) in
-        (at.0, slot, subst (λ (k : List ℕ). slice_get m.entries at.0 ≡ Some (k, slot)) (sym same) at.2, sym (ap (λ (o : Option Slot). is_some (stand_of_option o).now) is) ∙ there)
 
 abbrev option_key : Option (List ℕ × Slot) → Option (List ℕ)
 option_key None = None
@@ -51,42 +34,76 @@ rises m sorted i j k l v w at_i at_j lt =
     let key_j : get_or (keys_of m.entries) j k ≡ l = get_or_from_slice_get (keys_of m.entries) j l k (slice_get-map (λ (e : List ℕ × Slot). e.0) m.entries j ∙ ap (λ (o : Option (List ℕ × Slot)). option_key o) at_j) in
     rw (← key_i, ← key_j) (Less-from_sorted (slice_cmp nat_cmp) (keys_of m.entries) i j k sorted lt (omega (arith, slice_get_within m.entries j (l, w) at_j, length-keys_of m.entries)))
 
-both_true : (a b : Bool) → a ≡ true → b ≡ true → (a && b) ≡ false → ⊥
-both_true true true p q r = absurd (cc)
-both_true true false p q r = absurd (cc)
-both_true false b p q r = absurd (cc)
+-- the files that are kept
+abbrev pub kept_in : Slots → Files
+kept_in m q = (stand_in m q).now
 
-pub least_found : (m : Slots) → IsOrdered (slice_cmp nat_cmp) m → (after : Option (List ℕ)) (at : ℕ) (n : List ℕ) (slot : Slot) → slice_get m.entries at ≡ Some (n, slot) → is_some (file_of slot.file) ≡ true
-    → ((i : ℕ) (e : List ℕ × Slot) → i < at → slice_get m.entries i ≡ Some e → is_candidate after e ≡ false) → IsNext (λ q. (stand_in m q).now) after (Some n)
-least_found m sorted after at n slot here file none = record {
-  there = λ q is. subst (λ (k : List ℕ). is_some (stand_in m k).now ≡ true) (same_Some n q is) (ap (λ (o : Option Slot). is_some (stand_of_option o).now) (btree_map_get_place total m at n slot sorted here) ∙ file);
-  least = λ q above there. (n, refl, by q above there (found m q there));
-}
-  where
-    by : (q : List ℕ) → is_above after q ≡ true → is_some (stand_in m q).now ≡ true → (i : ℕ) × (s : Slot) × (slice_get m.entries i ≡ Some (q, s)) × (is_some (file_of s.file) ≡ true) → (n ≡ q) ⊎ (slice_cmp nat_cmp n q ≡ Less)
-    by q above there f = ⊎_elim
-        (λ lt. absurd (both_true _ _ f.3 above (none f.0 (q, f.1) lt f.2)))
-        (λ le. ⊎_elim
-        (λ same. inl (ap (λ (e : List ℕ × Slot). e.0) (same_Some (n, slot) (q, f.1) (sym here ∙ ap (slice_get m.entries) (sym same) ∙ f.2))))
-        (λ other. inr (rises m sorted at f.0 n q slot f.1 here f.2 (omega arith)))
-        (cases_eq f.0 at))
-        (cases_lt f.0 at)
+in_bound : (after : Option (List ℕ)) (q : List ℕ) → is_above after q ≡ true → IsInRange (slice_cmp nat_cmp) (bound_above after) Unbounded q
+in_bound None q above = (tt, tt)
+in_bound (Some a) q above = (less_is _ above, tt)
 
-pub none_found : (m : Slots) (after : Option (List ℕ)) → ((i : ℕ) (e : List ℕ × Slot) → i < length m.entries → slice_get m.entries i ≡ Some e → is_candidate after e ≡ false) → IsNext (λ q. (stand_in m q).now) after None
-none_found m after none = record {
-  there = λ q is. absurd (none-some q is);
-  least = λ q above there. absurd (by q above (found m q there));
-}
-  where
-    by : (q : List ℕ) → is_above after q ≡ true → (i : ℕ) × (s : Slot) × (slice_get m.entries i ≡ Some (q, s)) × (is_some (file_of s.file) ≡ true) → ⊥
-    by q above f = both_true _ _ f.3 above (none f.0 (q, f.1) (slice_get_within m.entries f.0 (q, f.1) f.2) f.2)
+from_bound : (after : Option (List ℕ)) (q : List ℕ) → IsInRange (slice_cmp nat_cmp) (bound_above after) Unbounded q → is_above after q ≡ true
+from_bound None q inside = refl
+from_bound (Some a) q inside = ap is_lt inside.0
 
-pub next_of_same : (one two : Files) (after next : Option (List ℕ)) → ((q : List ℕ) → one q ≡ two q) → IsNext one after next → IsNext two after next
-next_of_same one two after next same h = record {
-  there = λ q is. ap (λ f. is_some f) (sym (same q)) ∙ h.there q is;
-  least = λ q above there. h.least q above (ap (λ f. is_some f) (same q) ∙ there);
-}
+entry_there : (o : Option Slot) → is_some (stand_of_option o).now ≡ true → IsSome o
+entry_there None there = absurd (cc)
+entry_there (Some slot) there = refl
 
-pub has_file : (o : Option (Vec ℕ Global)) → is_some o ≡ true → is_some (file_of o) ≡ true
-has_file None h = h
-has_file (Some v) h = refl
+is_some-file_of : (file : Option (Vec ℕ Global)) → is_some file ≡ is_some (file_of file)
+is_some-file_of None = refl
+is_some-file_of (Some bytes) = refl
+
+same_or_less : (p q : List ℕ) (o : Ordering) → slice_cmp nat_cmp p q ≡ o → is_gt o ≡ false → (p ≡ q) ⊎ (slice_cmp nat_cmp p q ≡ Less)
+same_or_less p q Less is le = inr is
+same_or_less p q Equal is le = inl (exact_bytes p q is)
+same_or_less p q Greater is le = absurd (cc)
+
+-- the first entry of those above
+module _ (m : Slots) (after : Option (List ℕ)) (r : List (List ℕ × Slot)) (is : IsRangeOf (slice_cmp nat_cmp) (bound_above after) Unbounded m r) where
+  pub next_kept_some : (e : List ℕ × Slot) (rest : List (List ℕ × Slot)) → r ≡ e ∷ rest → (there : Bool) → there ≡ is_some e.1.file → IsNextKept (kept_in m) after (Some (e.0, there))
+  next_kept_some e rest shape there same = record {
+    above = from_bound after e.0 entry.0;
+    there = same ∙ is_some-file_of e.1.file ∙ ap (λ (o : Option Slot). is_some (stand_of_option o).now) (sym entry.1);
+    least = λ q above has. ((e.0, there), refl, same_or_less e.0 q (slice_cmp nat_cmp e.0 q) refl (first q above has));
+  }
+    where
+      entry : IsEntryInRange (slice_cmp nat_cmp) (bound_above after) Unbounded m e
+      entry = subst (λ (l : List (List ℕ × Slot)). IfSome (slice_get l 0) (IsEntryInRange (slice_cmp nat_cmp) (bound_above after) Unbounded m)) shape is.1
+
+      first : (q : List ℕ) → is_above after q ≡ true → is_some (kept_in m q) ≡ true → IsLeBy (slice_cmp nat_cmp) e.0 q
+      first q above has = subst (λ (l : List (List ℕ × Slot)). IfSome (slice_get l 0) (λ x. IsLeBy (slice_cmp nat_cmp) x.0 q)) shape (is.2 q (in_bound after q above) (entry_there (get (slice_cmp nat_cmp) m q) has))
+
+  pub next_kept_none : r ≡ [] → IsNextKept (kept_in m) after None
+  next_kept_none empty = record {
+    above = tt;
+    there = tt;
+    least = λ q above has. absurd (gone q above has);
+  }
+    where
+      gone : (q : List ℕ) → is_above after q ≡ true → is_some (kept_in m q) ≡ true → ⊥
+      gone q above has =
+          let none : get (slice_cmp nat_cmp) m q ≡ None = is.5 empty q (in_bound after q above) in
+          let f : is_some (kept_in m q) ≡ false = ap (λ (o : Option Slot). is_some (stand_of_option o).now) none in
+          absurd (cc)
+
+above_from : (from : Option (List ℕ)) (place q : List ℕ) → is_above from place ≡ true → is_above (Some place) q ≡ true → is_above from q ≡ true
+above_from None place q one two = refl
+above_from (Some a) place q one two = above_above a place q one two
+
+-- A walk goes on from one place to another.
+module _ (files : Files) (at from : Option (List ℕ)) (n : List ℕ × Bool) (next : IsNextKept files at (Some n)) (same : at ≡ from) where
+  pub above_both : (q : List ℕ) → is_above (Some n.0) q ≡ true → is_above from q ≡ true
+  above_both q above = subst (λ (o : Option (List ℕ)). is_above o q ≡ true) same (above_from at n.0 q next.above above)
+
+  -- a place without a file is passed
+  pub passed : n.1 ≡ false → (q : List ℕ) → is_above from q ≡ true → is_some (files q) ≡ true → is_above (Some n.0) q ≡ true
+  passed empty q above has =
+      let found = next.least q (subst (λ (o : Option (List ℕ)). is_above o q ≡ true) (sym same) above) has in
+      let this : n.0 ≡ found.0.0 = ap (λ (m : List ℕ × Bool). m.0) (same_Some n found.0 found.1) in
+      ⊎_elim (λ here. absurd (clash (this ∙ here))) (λ less. ap is_lt (subst (λ (p : List ℕ). slice_cmp nat_cmp p q ≡ Less) (sym this) less)) found.2
+    where
+      clash : n.0 ≡ q → ⊥
+      clash here =
+          let f : is_some (files q) ≡ false = subst (λ (p : List ℕ). is_some (files p) ≡ false) here (sym next.there ∙ empty) in
+          absurd (cc)

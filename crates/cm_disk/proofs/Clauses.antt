@@ -6,9 +6,13 @@ use Rattle.std.proofs.lemmas.Option.{same_Some, none-some}
 use Rattle.std.proofs.lemmas.Bool.{cases_Bool}
 use Rattle.std.proofs.lemmas.Slice.Eq.{bytes_eq-Decides}
 use Rattle.cm_disk.specs.declared.calls.Work.{Work}
-use Rattle.cm_disk.specs.declared.calls.Work.TheVariants.{Cut, Remove, Sync}
+use Rattle.cm_disk.specs.declared.calls.Work.TheVariants.{Write, Cut, Remove, Sync}
 use Rattle.cm_disk.specs.declared.calls.Call.{Call}
 use Rattle.cm_disk.specs.Disk.{File, Files, put, shortened, Does, LeavesNoMore, Touches, IsThere, Only, Elapses}
+use Rattle.std.specs.Prelude.{Vec}
+use Rattle.std.specs.declared.alloc.Global.{Global}
+use Rattle.cm_disk.specs.declared.memory.MemDisk.{MemDisk}
+use Rattle.cm_disk.specs.Recorded.{IsWrite, Joins, IsRecorded}
 use Rattle.cm_disk.specs.Images.{Stand}
 use Rattle.cm_disk.specs.Stands.{cut_stand, removed_stand, worked, stand_after, files_after, left_after, LeftSince}
 use Rattle.cm_disk.proofs.Puts.{put_here, put_there}
@@ -79,6 +83,16 @@ module _ {T E : Type 0} (calls later : List Call) (place : List ℕ) (work : Wor
     silent = λ none. absurd (none-some (files_after calls) (sym none));
   }
   does_of f is (Err e) ok err = does_nothing (files_after calls) (files_after later) place f e (same_files calls later place work err)
+
+-- a write is recorded with the bytes that were handed in
+row : (old new : MemDisk) (place : List ℕ) (offset : ℕ) (piece : Vec ℕ Global) (bytes : List ℕ) → piece.items ≡ bytes → (done : Bool)
+    → Joins old new place (λ work. work ≡ Write offset piece) done → Joins old new place (IsWrite offset bytes) done
+row old new place offset piece bytes same done made = record { work = made.work; fits = record { piece = piece; write = made.fits; same = same }; joins = made.joins }
+
+pub recorded_write : {T E : Type 0} (old new : MemDisk) (place : List ℕ) (offset : ℕ) (piece : Vec ℕ Global) (bytes : List ℕ) → piece.items ≡ bytes
+    → (r : Result T E) → IsRecorded old new place (λ work. work ≡ Write offset piece) r → IsRecorded old new place (IsWrite offset bytes) r
+recorded_write old new place offset piece bytes same (Ok x) is = record { ok = row old new place offset piece bytes same true is.ok; err = tt }
+recorded_write old new place offset piece bytes same (Err e) is = record { ok = tt; err = ⊎_elim (λ made. inl (row old new place offset piece bytes same false made)) (λ lacked. inr lacked) is.err }
 
 pub cut_now : (size : ℕ) (s : Stand) → is_some s.now ≡ true → (worked (Cut size) true s).now ≡ shortened size s.now
 cut_now size s there = by s.now refl

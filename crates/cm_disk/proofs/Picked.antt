@@ -96,6 +96,10 @@ kept_stand calls later last place bytes file is none first second q = ap (λ (l 
         other : q ≡ place → ⊥
         other s = let t : bytes_eq place q ≡ true = (bytes_eq-Decides place q).1 (sym s) in absurd (cc)
 
+pub joins_if : (b : Bool) (later one none : List Call) → later ≡ (if b then one else none) → b ≡ true → later ≡ one
+joins_if true later one none is joined = is
+joins_if false later one none is joined = absurd (cc)
+
 -- nothing is kept of a file that is absent
 pub kept_none : (calls : List Call) (place : List ℕ) (file : File) → file ≡ None → stand_after calls place ≡ absent → (q : List ℕ) → stand_after calls q ≡ (if bytes_eq place q then at_rest file else stand_after calls q)
 kept_none calls place file is none q = ⊎_elim yes apart (cases_Bool (bytes_eq place q))

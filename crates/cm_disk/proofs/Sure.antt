@@ -1,12 +1,12 @@
 -- What is sure of a byte, whatever a stop leaves.
 use Rattle.std.proofs.Common.{◌≡◌, ◌⊎◌, inl, inr, ⊎_elim, ℕ, zero, suc, ◌+◌, ◌<◌, ◌≤◌, List, [], ◌∷◌, refl, sym, ◌∙◌, ap, subst, arith}
-use Rattle.std.specs.Prelude.{Bool, true, false, Some, None, is_some, slice_get}
+use Rattle.std.specs.Prelude.{◌==◌, if◌then◌else◌, Bool, true, false, Some, None, is_some, slice_get}
 use Rattle.std.proofs.lemmas.Option.{none-some, same_Some}
 use Rattle.std.proofs.lemmas.Bool.Decides.{nat_tests}
 use Rattle.cm_disk.specs.declared.calls.Span.{Span}
 use Rattle.cm_disk.specs.Disk.{File, bytes_of, byte_at}
 use Rattle.cm_disk.specs.Images.{Stand, is_touched, IsLeft}
-use Rattle.cm_disk.specs.Stands.{span_of_write}
+use Rattle.cm_disk.specs.Stands.{span_of_write, with_span}
 
 -- a list with another number at one place
 patched : List ℕ → ℕ → ℕ → List ℕ
@@ -94,10 +94,16 @@ sure_after s t i byte h same_durable same_removed out file left = by file left
         clash removed = let k : s.removed ≡ false = h.kept in absurd (cc)
 
 -- the range of a write to a file that is there, and of a cut
-pub outside_write : (now : File) (offset count i : ℕ) (spans : List Span) → is_some now ≡ true → (i < offset) ⊎ (offset + count ≤ i) → is_touched spans i ≡ false → is_touched (span_of_write now offset count ∷ spans) i ≡ false
+pub outside_write : (now : File) (offset count i : ℕ) (spans : List Span) → is_some now ≡ true → (i < offset) ⊎ (offset + count ≤ i) → is_touched spans i ≡ false → is_touched (with_span (span_of_write now offset count) spans) i ≡ false
 outside_write None offset count i spans there which out = absurd (cc)
-outside_write (Some old) offset count i spans there (inl lt) out = grind (arith, nat_tests)
-outside_write (Some old) offset count i spans there (inr le) out = grind (arith, nat_tests)
+outside_write (Some old) offset count i spans there which out = by (count == 0)
+  where
+    apart : is_touched (record { from = offset; to = Some (offset + count) } ∷ spans) i ≡ false
+    apart = ⊎_elim (λ lt. grind (arith, nat_tests)) (λ le. grind (arith, nat_tests)) which
+
+    by : (empty : Bool) → is_touched (with_span (if empty then None else Some (record { from = offset; to = Some (offset + count) })) spans) i ≡ false
+    by true = out
+    by false = apart
 
 pub before_cut : (size i : ℕ) (spans : List Span) → i < size → is_touched spans i ≡ false → is_touched (record { from = size; to = None } ∷ spans) i ≡ false
 before_cut size i spans lt out = grind (arith, nat_tests)

@@ -1,9 +1,13 @@
 pub mod Disk
+pub mod Hashed
 pub mod HostNames
 pub mod Images
 pub mod Ranks
 pub mod Recorded
 pub mod Slots
+pub mod SlotsLaws
 pub mod Stands
 pub mod StandsLaws
 pub mod Unknown
+pub mod UnknownLaws
+pub mod Walks

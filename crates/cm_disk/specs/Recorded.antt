@@ -1,7 +1,10 @@
 -- What clauses see of a disk in memory.
-use Rattle.std.specs.Prelude.{◌≡◌, ◌⊎◌, ℕ, ◌+◌, ◌-◌, ◌^◌, min, Bool, true, false, List, length, Option, Some, Result, OnOk, OnErr}
+use Rattle.std.specs.Prelude.{◌≡◌, ◌⊎◌, ℕ, ◌+◌, ◌-◌, ◌^◌, min, Bool, true, false, List, [], ◌∷◌, ◌++◌, length, Option, Some, Result, OnOk, OnErr, Vec}
+use Rattle.std.specs.declared.alloc.Global.{Global}
 use Rattle.cm_disk.specs.declared.memory.MemDisk.{MemDisk}
 use Rattle.cm_disk.specs.declared.calls.Call.{Call}
+use Rattle.cm_disk.specs.declared.calls.Work.{Work}
+use Rattle.cm_disk.specs.declared.calls.Work.TheVariants.{Write}
 use Rattle.cm_disk.specs.Disk.{File, Files}
 use Rattle.cm_disk.specs.Images.{Stand}
 use Rattle.cm_disk.specs.Stands.{stand_after, files_after, left_after, LeftSince}
@@ -62,3 +65,21 @@ pub record FailsExactly {T E : Type 0} (old new : MemDisk) (result : Result T E)
   pub ok : OnOk result ((is_failing old (number_of old) ≡ false) × (short_of new ≡ short_of old) × (faults_of new ≡ faults_of old))
   pub err : OnErr result (((is_failing old (number_of old) ≡ true) × (short_of new ≡ short_of old)) ⊎ (short_of new ≡ raised (short_of old)))
   pub counted : OnErr result (faults_of new ≡ raised (faults_of old))
+
+-- a write of these bytes from this offset on
+pub record IsWrite (offset : ℕ) (bytes : List ℕ) (work : Work) : Type 0 where
+  pub piece : Vec ℕ Global
+  pub write : work ≡ Write offset piece
+  pub same : piece.items ≡ bytes
+
+-- one call joins the record
+pub record Joins (old new : MemDisk) (place : List ℕ) (asked : Work → Type 0) (done : Bool) : Type 0 where
+  pub work : Work
+  pub fits : asked work
+  pub joins : calls_of new ≡ calls_of old ++ record { place = place; work = work; done = done } ∷ []
+
+-- A device call that may change something joins the record as it was asked for, done or failed. Only where there was no memory
+-- is it left out, and then it changed nothing.
+pub record IsRecorded {T E : Type 0} (old new : MemDisk) (place : List ℕ) (asked : Work → Type 0) (result : Result T E) : Type 0 where
+  pub ok : OnOk result (Joins old new place asked true)
+  pub err : OnErr result (Joins old new place asked false ⊎ ((short_of new ≡ raised (short_of old)) × (calls_of new ≡ calls_of old)))

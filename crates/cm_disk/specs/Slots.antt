@@ -1,17 +1,19 @@
 -- What a disk in memory keeps of each place.
-use Rattle.std.specs.Prelude.{◌≡◌, ◌+◌, ◌^◌, ◌≤◌, ℕ, List, length, Option, None, Some, Bool, ◌||◌, ◌==◌, nat_le, option_map, Vec}
+use Rattle.std.specs.Prelude.{◌≡◌, ◌⊎◌, ◌+◌, ◌^◌, ◌≤◌, ℕ, List, length, Option, None, Some, IfSome, is_some, Bool, true, ◌||◌, ◌==◌, nat_le, option_map, Vec}
+use Rattle.std.specs.declared.cmp.Ordering.TheVariants.{Less}
+use Rattle.std.specs.declared.ops.Bound.{Bound}
+use Rattle.std.specs.declared.ops.Bound.TheVariants.{Excluded, Unbounded}
 use Rattle.std.specs.List.{list_any}
 use Rattle.std.specs.Ordering.{nat_cmp}
 use Rattle.std.specs.Cmp.Lexicographic.{slice_cmp}
 use Rattle.std.specs.BTreeMap.{BTreeMap, get}
 use Rattle.std.specs.declared.alloc.Global.{Global}
-use Rattle.std.proofs.Props.{props}
 use Rattle.cm_disk.specs.declared.calls.Slot.{Slot}
-use Rattle.cm_disk.specs.declared.calls.Call.{Call}
 use Rattle.cm_disk.specs.declared.calls.Work.{Work}
 use Rattle.cm_disk.specs.declared.calls.Work.TheVariants.{Write, Cut, Remove, Sync}
+use Rattle.cm_disk.specs.Disk.{Files, is_above}
 use Rattle.cm_disk.specs.Images.{Stand}
-use Rattle.cm_disk.specs.Stands.{absent, stand_after}
+use Rattle.cm_disk.specs.Stands.{absent}
 
 -- the bytes of a file that is kept
 abbrev pub file_of : Option (Vec ℕ Global) → Option (List ℕ)
@@ -28,12 +30,6 @@ stand_of_option (Some slot) = stand_of slot
 abbrev pub stand_in : BTreeMap (List ℕ) Slot → List ℕ → Stand
 stand_in slots place = stand_of_option (get (slice_cmp nat_cmp) slots place)
 
-pub Stand-set : IsSet Stand
-Stand-set = hlevel props
-
-pub same_prop : (slots : BTreeMap (List ℕ) Slot) (calls : List Call) → IsProp ((place : List ℕ) → stand_in slots place ≡ stand_after calls place)
-same_prop slots calls = hlevel (props, Stand-set)
-
 -- a file has at most 2^40 + 131,072 bytes
 abbrev pub CanDo : Work → Type 0
 CanDo (Write offset bytes) = offset + length bytes.items ≤ 2 ^ 40 + 131072
@@ -45,3 +41,14 @@ CanDo Sync = Unit {0}
 abbrev pub is_listed : List ℕ → Option ℕ → ℕ → Bool
 is_listed fail None number = list_any (λ x. x == number) fail
 is_listed fail (Some at) number = nat_le at number || list_any (λ x. x == number) fail
+
+-- where the places above another begin
+abbrev pub bound_above : Option (List ℕ) → Bound (List ℕ)
+bound_above None = Unbounded
+bound_above (Some after) = Excluded after
+
+-- the least place above another of those of which something is kept, with whether a file is there: each file is at such a place
+pub record IsNextKept (files : Files) (after : Option (List ℕ)) (next : Option (List ℕ × Bool)) : Type 0 where
+  pub above : IfSome next (λ n. is_above after n.0 ≡ true)
+  pub there : IfSome next (λ n. n.1 ≡ is_some (files n.0))
+  pub least : (q : List ℕ) → is_above after q ≡ true → is_some (files q) ≡ true → (n : List ℕ × Bool) × (next ≡ Some n) × ((n.0 ≡ q) ⊎ (slice_cmp nat_cmp n.0 q ≡ Less))

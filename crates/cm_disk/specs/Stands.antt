@@ -13,10 +13,15 @@ use Rattle.cm_disk.specs.Disk.{File, Files, bytes_of, written, IsImage}
 abbrev pub absent : Stand
 absent = record { now = None; durable = None; touched = []; removed = false }
 
--- what a write touches: its range, or everything where it makes the file
-abbrev pub span_of_write : Option (List ℕ) → ℕ → ℕ → Span
-span_of_write None offset count = record { from = 0; to = None }
-span_of_write (Some bytes) offset count = record { from = offset; to = Some (offset + count) }
+-- the range that a write touches: its own, none where that is empty, or everything where it makes the file
+abbrev pub span_of_write : Option (List ℕ) → ℕ → ℕ → Option Span
+span_of_write None offset count = Some (record { from = 0; to = None })
+span_of_write (Some bytes) offset count = if count == 0 then None else Some (record { from = offset; to = Some (offset + count) })
+
+-- one range more, if there is one
+abbrev pub with_span : Option Span → List Span → List Span
+with_span None spans = spans
+with_span (Some span) spans = span ∷ spans
 
 -- a file that is there, after a cut or a removal
 abbrev pub cut_stand : ℕ → Bool → Stand → Option (List ℕ) → Stand
@@ -29,7 +34,7 @@ removed_stand done s (Some bytes) = record { now = (if done then None else Some 
 
 -- after a call that was done or failed
 abbrev pub worked : Work → Bool → Stand → Stand
-worked (Write offset bytes) done s = record { now = (if done then written offset bytes.items s.now else s.now); durable = s.durable; touched = span_of_write s.now offset (length bytes.items) ∷ s.touched; removed = s.removed }
+worked (Write offset bytes) done s = record { now = (if done then written offset bytes.items s.now else s.now); durable = s.durable; touched = with_span (span_of_write s.now offset (length bytes.items)) s.touched; removed = s.removed }
 worked (Cut size) done s = cut_stand size done s s.now
 worked Remove done s = removed_stand done s s.now
 worked Sync done s = (if done then record { now = s.now; durable = s.now; touched = []; removed = false } else s)

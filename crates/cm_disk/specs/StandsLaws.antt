@@ -1,9 +1,10 @@
--- The laws of a record of calls.
-use Rattle.std.specs.Prelude.{◌≡◌, ◌⊎◌, ℕ, ◌+◌, ◌^◌, ◌<◌, ◌≤◌, Bool, true, false, if◌then◌else◌, ◌&&◌, ◌||◌, nat_le, nat_lt, List, [], ◌∷◌, ◌++◌, length, take, drop, None, Some, slice_get}
+-- What the laws of a disk in memory name, of a record of calls.
+use Rattle.std.specs.Prelude.{◌≡◌, ◌⊎◌, ℕ, ◌+◌, ◌^◌, ◌<◌, ◌≤◌, ◌==◌, Bool, true, false, if◌then◌else◌, ◌&&◌, ◌||◌, nat_le, nat_lt, List, [], ◌∷◌, ◌++◌, length, take, drop, None, Some, slice_get}
 use Rattle.std.specs.Str.{bytes_eq}
 use Rattle.std.proofs.Common.{inl, inr, zero, suc, refl, sym, ◌∙◌, ap, subst, arith}
 use Rattle.std.proofs.lemmas.Option.{none-some, same_Some}
 use Rattle.std.proofs.Math.Seq.{take-length}
+use Rattle.std.proofs.lemmas.List.{append-nil, take-append-drop}
 use Rattle.std.proofs.lemmas.Bool.Decides.{nat_tests}
 use Rattle.cm_disk.specs.declared.calls.Span.{Span}
 use Rattle.cm_disk.specs.declared.calls.Work.{Work}
@@ -11,7 +12,7 @@ use Rattle.cm_disk.specs.declared.calls.Work.TheVariants.{Write, Cut, Remove, Sy
 use Rattle.cm_disk.specs.declared.calls.Call.{Call}
 use Rattle.cm_disk.specs.Disk.{File, Files, overwritten, written, IsImage, bytes_of}
 use Rattle.cm_disk.specs.Images.{Stand, is_touched, IsLeft}
-use Rattle.cm_disk.specs.Stands.{absent, IsSmall, span_of_write, cut_stand, removed_stand, worked, step, after, stand_after, files_after, left_after, LeftSince}
+use Rattle.cm_disk.specs.Stands.{absent, IsSmall, span_of_write, with_span, cut_stand, removed_stand, worked, step, after, stand_after, files_after, left_after, LeftSince}
 
 pub counts : (calls : List Call) (t : ℕ) (files : Files) → t ≤ length calls → IsImage (left_after calls) files → LeftSince calls t files
 counts calls t files le image = record {
@@ -95,8 +96,15 @@ touched_more s file x span removed none h = record {
   bytes = λ there i byte out is. h.bytes there i byte (outside_others span s.touched i out) is;
 }
 
+-- no bytes over others
+over_nothing : (old bytes : List ℕ) (offset : ℕ) → length bytes ≡ 0 → overwritten old offset bytes ≡ old
+over_nothing old [] offset none =
+    let at_offset : offset + 0 ≡ offset = omega arith in
+    ap (λ (l : List ℕ). l ++ drop (offset + 0) old) (append-nil (take offset old)) ∙ ap (λ (n : ℕ). take offset old ++ drop n old) at_offset ∙ take-append-drop offset old
+over_nothing old (byte ∷ bytes) offset none = absurd (omega arith)
+
 write_reads : (s : Stand) (now x : File) (offset : ℕ) (bytes : List ℕ) → IsLeft s now
-    → IsLeft (record { now = x; durable = s.durable; touched = span_of_write now offset (length bytes) ∷ s.touched; removed = s.removed }) (written offset bytes now)
+    → IsLeft (record { now = x; durable = s.durable; touched = with_span (span_of_write now offset (length bytes)) s.touched; removed = s.removed }) (written offset bytes now)
 write_reads s None x offset bytes h = record {
   clean = λ e. absurd (cc);
   absent = λ e. absurd (cc);
@@ -105,12 +113,25 @@ write_reads s None x offset bytes h = record {
   where
     nothing : (i : ℕ) → i < 0 → ⊥
     nothing i lt = omega arith
-write_reads s (Some old) x offset bytes h = record {
-  clean = λ e. absurd (cc);
-  absent = λ e. absurd (cc);
-  bytes = λ there i byte out is. kept_outside old bytes offset i byte (outside_first offset i (offset + length bytes) s.touched out)
-      (h.bytes refl i byte (outside_others (record { from = offset; to = Some (offset + length bytes) }) s.touched i out) is);
-}
+write_reads s (Some old) x offset bytes h = by (length bytes == 0) refl
+  where
+    by : (empty : Bool) → (length bytes == 0) ≡ empty → IsLeft (record { now = x; durable = s.durable; touched = with_span (if empty then None else Some (record { from = offset; to = Some (offset + length bytes) })) s.touched; removed = s.removed }) (Some (overwritten old offset bytes))
+    by true is =
+        let none : length bytes ≡ 0 = grind (arith, nat_tests, is) in
+        subst (λ (l : List ℕ). IsLeft (record { now = x; durable = s.durable; touched = s.touched; removed = s.removed }) (Some l)) (sym (over_nothing old bytes offset none)) (record { clean = h.clean; absent = h.absent; bytes = h.bytes })
+    by false is = record {
+      clean = λ e. absurd (cc);
+      absent = λ e. absurd (cc);
+      bytes = λ there i byte out is. kept_outside old bytes offset i byte (outside_first offset i (offset + length bytes) s.touched out) (h.bytes refl i byte (outside_others (record { from = offset; to = Some (offset + length bytes) }) s.touched i out) is);
+    }
+
+failed_write : (s : Stand) (now : File) (offset count : ℕ) → IsLeft s now → IsLeft (record { now = now; durable = s.durable; touched = with_span (span_of_write now offset count) s.touched; removed = s.removed }) now
+failed_write s None offset count h = touched_more s None None (record { from = 0; to = None }) s.removed h.absent h
+failed_write s (Some old) offset count h = by (count == 0)
+  where
+    by : (empty : Bool) → IsLeft (record { now = Some old; durable = s.durable; touched = with_span (if empty then None else Some (record { from = offset; to = Some (offset + count) })) s.touched; removed = s.removed }) (Some old)
+    by true = record { clean = h.clean; absent = h.absent; bytes = h.bytes }
+    by false = touched_more s (Some old) (Some old) (record { from = offset; to = Some (offset + count) }) s.removed h.absent h
 
 cut_reads : (s : Stand) (now : File) (size : ℕ) (done : Bool) → s.now ≡ now → IsLeft s now → IsLeft (cut_stand size done s now) (cut_stand size done s now).now
 cut_reads s None size done same h = subst (λ (f : File). IsLeft s f) (sym same) h
@@ -133,7 +154,7 @@ removed_reads s (Some old) false same h = touched_more s (Some old) (Some old) (
 -- a disk as it reads is one of its images: each call keeps that
 pub still_reads : (work : Work) (done : Bool) (s : Stand) → IsLeft s s.now → IsLeft (worked work done s) (worked work done s).now
 still_reads (Write offset bytes) true s h = write_reads s s.now (written offset bytes.items s.now) offset bytes.items h
-still_reads (Write offset bytes) false s h = touched_more s s.now s.now (span_of_write s.now offset (length bytes.items)) s.removed h.absent h
+still_reads (Write offset bytes) false s h = failed_write s s.now offset (length bytes.items) h
 still_reads (Cut size) done s h = cut_reads s s.now size done refl h
 still_reads Remove done s h = removed_reads s s.now done refl h
 still_reads Sync true s h = record { clean = λ _ _. refl; absent = λ e. inl e; bytes = λ there i byte out is. is }
@@ -152,6 +173,9 @@ absent_reads = record { clean = λ _ _. refl; absent = λ _. inl refl; bytes = �
 
 pub as_it_reads : (calls : List Call) (files : Files) → Some (files_after calls) ≡ Some files → IsImage (left_after calls) files
 as_it_reads calls files is q = subst (λ (f : Files). IsLeft (stand_after calls q) (f q)) (same_Some (files_after calls) files is) (reads_after calls q absent absent_reads)
+
+pub some_image : (calls : List Call) → (files : Files) × IsImage (left_after calls) files
+some_image calls = (files_after calls, λ q. reads_after calls q absent absent_reads)
 
 pub short_files : (calls : List Call) → ((place : List ℕ) → IsSmall (stand_after calls place)) → (files : Files) (place : List ℕ) → Some (files_after calls) ≡ Some files → length (bytes_of (files place)) ≤ 2 ^ 40 + 131072
 short_files calls small files place is = subst (λ (f : Files). length (bytes_of (f place)) ≤ 2 ^ 40 + 131072) (same_Some (files_after calls) files is) (small place).now

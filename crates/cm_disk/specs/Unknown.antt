@@ -1,16 +1,7 @@
 -- Nothing is known of what a stop leaves.
-use Rattle.std.specs.Prelude.{◌≡◌, ℕ, ◌≤◌, Option, None, Some}
+use Rattle.std.specs.Prelude.{ℕ, ◌≤◌}
 use Rattle.cm_disk.specs.Disk.{Files}
-use Rattle.std.proofs.Common.{arith}
-use Rattle.std.proofs.lemmas.Option.{none-some}
 
 -- any files may have been left
 pub record Unknown (t : ℕ) (files : Files) : Type 0 where
   pub any : 0 ≤ t
-
-pub unknown : (t : ℕ) (files : Files) → Unknown t files
-unknown t files = record { any = omega arith }
-
--- what a disk that tells nothing would tell
-pub untold : {T : Type 0} (files : Files) → ◌≡◌ {A = Option Files} None (Some files) → T
-untold files is = absurd (none-some files is)

@@ -4,7 +4,7 @@ ghost use Rattle.std.specs.Str.{bytes_eq};
 ghost use Rattle.cm_disk.specs.Disk.{File, IsImage};
 ghost use Rattle.cm_disk.specs.Images.{is_before, is_touched, at_rest};
 ghost use Rattle.cm_disk.specs.Stands.{absent, marked, picked, IsSmall};
-ghost use Rattle.cm_disk.specs.Recorded.{stand_at, files_of, leaves_of, is_failing};
+ghost use Rattle.cm_disk.specs.Recorded.{stand_at, files_of, leaves_of, is_failing, number_of, faults_of, short_of};
 ghost use Rattle.cm_disk.specs.Slots.{file_of, stand_of};
 
 use crate::calls::{Slot, Span, Work};
@@ -22,6 +22,7 @@ impl MemDisk {
         ensures image { IfOk result (λ disk. IsImage (leaves_of self.now) (files_of disk)) }
         ensures durable { IfOk result (λ disk. (q : List ℕ) (file : File) → leaves_of disk q file → file ≡ files_of disk q) }
         ensures listed { IfOk result (λ disk. (number : ℕ) → is_failing disk number ≡ false) }
+        ensures fresh { IfOk result (λ disk. (number_of disk ≡ 0) × (faults_of disk ≡ 0) × (short_of disk ≡ 0)) }
     {
         let mut disk = MemDisk::made(self.alloc, Vec::new(self.alloc), None);
         for (place, slot) in self.slots.iter() {
@@ -36,16 +37,19 @@ impl MemDisk {
         requires small { IsSmall (stand_of slot.now) }
         ensures kept { OnOk result ((q : List ℕ) → stand_at self.new q ≡ (if bytes_eq place.now q then at_rest (picked pick (stand_of slot.now)) else stand_at self.old q)) }
         ensures listed { (number : ℕ) → is_failing self.new number ≡ is_failing self.old number }
+        ensures counts { (number_of self.new ≡ number_of self.old) × (faults_of self.new ≡ faults_of self.old) × (short_of self.new ≡ short_of self.old) }
     {
         let Some(bytes) = picked_file(self.alloc, slot, pick)? else {
             return Ok(());
         };
-        let Ok(()) = self.change(place, Work::Write { offset: 0, bytes }) else {
+        let is_written = self.add(place, Work::Write { offset: 0, bytes }, true);
+        if !is_written {
             return Err(Memory);
-        };
-        let Ok(()) = self.change(place, Work::Sync) else {
+        }
+        let is_synced = self.add(place, Work::Sync, true);
+        if !is_synced {
             return Err(Memory);
-        };
+        }
         Ok(())
     }
 }

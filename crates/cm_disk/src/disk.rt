@@ -107,6 +107,9 @@ pub trait Disk {
     /// A disk as it reads is one of its images.
     ghost as_it_reads: { (disk : Self) (files : Files) → reads disk ≡ Some files → IsImage (may_leave disk) files };
 
+    /// A stop leaves something, whatever the disk tells.
+    ghost some_image: { (disk : Self) → (files : Files) × IsImage (may_leave disk) files };
+
     /// A file has at most 2^40 + 131,072 bytes.
     ghost short: { (disk : Self) (files : Files) (place : List ℕ) → reads disk ≡ Some files → length (bytes_of (files place)) ≤ 2 ^ 40 + 131072 };
 }

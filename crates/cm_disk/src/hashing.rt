@@ -1,27 +1,28 @@
 //! The bytes of a file on a disk are hashed.
 ghost use Rattle.std.specs.Prelude.{◌≡◌, ◌≤◌, ◌<◌, ◌+◌, ◌-◌, ◌^◌, ◌++◌, ℕ, List, IfOk, length, min, take, drop};
 ghost use Rattle.std.specs.Option.{ForSome};
-ghost use Rattle.sha2.specs.Sha256.{sha256};
 ghost use Rattle.cm_base.specs.Causes.{HasCause};
 ghost use Rattle.cm_base.specs.Fed.{WasFed, count_of};
 ghost use Rattle.cm_disk.specs.Disk.{IsImage, LeavesNoMore, LeavesOnly, Elapses, bytes_of};
+ghost use Rattle.cm_disk.specs.Hashed.{hashed};
 
 use crate::{Disk, DiskFault};
 use cm_base::{FileHasher, Hash, Place};
 
-/// How many bytes a file has, and their SHA-256, where it has so many: at most 2^40 + 131,072. A file of another size is read
-/// as far as so many bytes go, and nothing is said of what is answered.
-pub fn hash_file<D: Disk>(disk: &mut D, place: &Place, size: u64) -> Result<(u64, Hash), DiskFault>
-    requires { size ≤ 2 ^ 40 + 131072 }
-    ensures is { IfOk result (λ got. ForSome (D.reads disk.old) (λ files. length (bytes_of (files place.now)) ≡ size → (got.0 ≡ size) × (got.1.0 ≡ sha256 (bytes_of (files place.now))))) }
+/// The size of a file and its SHA-256, read in pieces of 64 KiB. None where there is no file.
+pub fn hash_file<D: Disk>(disk: &mut D, place: &Place) -> Result<Option<(u64, Hash)>, DiskFault>
+    ensures exact { IfOk result (λ got. ForSome (D.reads disk.old) (λ files. got ≡ hashed (files place.now))) }
     ensures same { D.reads disk.new ≡ D.reads disk.old }
     ensures stop { LeavesNoMore (D.may_leave disk.old) (D.may_leave disk.new) }
     ensures run { LeavesOnly D.moment D.left_since disk.old disk.new (IsImage (D.may_leave disk.old)) }
     ensures cause { HasCause (D.faults disk.old) (D.faults disk.new) result }
 {
+    let Some(size) = disk.size(place)? else {
+        return Ok(None);
+    };
     let hasher = read_front(disk, place, size)?;
     let got = hasher.done();
-    Ok(got)
+    Ok(Some(got))
 }
 
 // A hasher that was fed so many bytes from the front of a file, or fewer where the disk gives fewer.

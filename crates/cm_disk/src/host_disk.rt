@@ -1,7 +1,8 @@
 //! The real files below one folder, as a disk.
 ghost use Rattle.std.specs.Prelude.{◌≡◌, ◌≤◌, ⊤, None, IfOk};
 ghost use Rattle.cm_base.specs.Causes.{Rose};
-ghost use Rattle.cm_disk.specs.Unknown.{Unknown, unknown, untold};
+ghost use Rattle.cm_disk.specs.Unknown.{Unknown};
+ghost use Rattle.cm_disk.specs.UnknownLaws.{unknown, untold};
 
 use crate::host::Host;
 use crate::{Disk, DiskFault};
@@ -54,6 +55,8 @@ impl<R: Files<File = File> + AllocGlobal + Clone + Drop> Disk for HostDisk<R> {
     ghost only_now = { λ disk files left place. tt };
 
     ghost as_it_reads = { λ disk files is place. tt };
+
+    ghost some_image = { λ disk. ((λ place. None), (λ place. tt)) };
 
     ghost short = { λ disk files place is. untold files is };
 

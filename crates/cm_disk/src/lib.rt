@@ -15,6 +15,7 @@ mod memory;
 mod memory_calls;
 mod places;
 mod slots;
+mod walk;
 
 pub use disk::{Disk, DiskFault};
 pub use hashing::hash_file;
@@ -25,6 +26,7 @@ pub use laws::{
     an_untouched_byte_is_durable, an_untouched_place_is_durable, what_is_durable_is_left,
 };
 pub use memory::MemDisk;
+pub use walk::{Form, next_of_form};
 
 #[cfg(test)]
 mod tests;

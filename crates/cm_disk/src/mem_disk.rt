@@ -6,14 +6,15 @@ ghost use Rattle.std.specs.Ordering.{nat_cmp};
 ghost use Rattle.std.specs.Cmp.Lexicographic.{slice_cmp};
 ghost use Rattle.std.specs.BTreeMap.{get};
 ghost use Rattle.cm_base.specs.Causes.{HasCause, Rose};
+ghost use Rattle.cm_disk.specs.Images.{IsLeft};
 ghost use Rattle.cm_disk.specs.Stands.{worked};
 ghost use Rattle.cm_disk.specs.Slots.{CanDo, stand_in, stand_of, is_listed};
-ghost use Rattle.cm_disk.specs.Recorded.{calls_of, files_of, number_of, is_failing, faults_of, short_of, raised, FailsExactly};
+ghost use Rattle.cm_disk.specs.Recorded.{calls_of, files_of, number_of, is_failing, faults_of, short_of, raised, FailsExactly, IsRecorded};
 
 use crate::DiskFault;
 use crate::calls::{Call, Slot, Work};
 use crate::memory::MemDisk;
-use crate::slots::{absent_slot, kept_slot, worked_slot};
+use crate::slots::{absent_slot, kept_slot, work_on};
 use cm_base::{Memory, Place};
 use std::alloc::Global;
 use std::collections::BTreeMap;
@@ -116,20 +117,33 @@ impl MemDisk {
         ensures err { OnErr result ((self.new.calls.items ≡ self.old.calls.items) ⊎ (self.new.calls.items ≡ self.old.calls.items ++ record { place = place.now; work = work; done = false } ∷ [])) }
         ensures cause { HasCause self.old.faults self.new.faults result }
         ensures exact { FailsExactly self.old self.new result }
+        ensures recorded { IsRecorded self.old self.new place.now (λ w. w ≡ work) result }
     {
         let done = !self.fails();
-        let call = Call {
-            place: *place,
-            work,
-            done,
-        };
-        if !joined(self.alloc, &mut self.slots, &mut self.calls, call) {
+        if !self.add(place, work, done) {
             return Err(self.lack());
         }
         if !done {
             return Err(self.fault());
         }
         Ok(())
+    }
+
+    // A call joins the record. False for want of memory: then nothing is changed.
+    pub(crate) fn add(&mut self, place: &Place, work: Work, done: bool) -> bool
+        requires can { CanDo work }
+        ensures calls { self.new.calls.items ≡ (if result then self.old.calls.items ++ record { place = place.now; work = work; done = done } ∷ [] else self.old.calls.items) }
+        ensures number { number_of self.new ≡ number_of self.old }
+        ensures listed { (number : ℕ) → is_failing self.new number ≡ is_failing self.old number }
+        ensures short { short_of self.new ≡ short_of self.old }
+        ensures faults { faults_of self.new ≡ faults_of self.old }
+    {
+        let call = Call {
+            place: *place,
+            work,
+            done,
+        };
+        joined(self.alloc, &mut self.slots, &mut self.calls, call)
     }
 }
 
@@ -140,7 +154,8 @@ fn joined(
     calls: &mut Vec<Call>,
     call: Call,
 ) -> bool
-    requires { CanDo call.work }
+    requires can { CanDo call.work }
+    requires reads { IsLeft (stand_in slots.old call.place) (stand_in slots.old call.place).now }
     ensures calls { calls.new.items ≡ (if result then calls.old.items ++ call ∷ [] else calls.old.items) }
     ensures here { IsTrue result → (q : List ℕ) → stand_in slots.new q ≡ (if bytes_eq call.place q then worked call.work call.done (stand_in slots.old call.place) else stand_in slots.old q) }
     ensures same { result ≡ false → (q : List ℕ) → stand_in slots.new q ≡ stand_in slots.old q }
@@ -152,16 +167,13 @@ fn joined(
     let Ok(kept) = slots.insert(place, absent_slot(alloc)) else {
         return false;
     };
-    match worked_slot(alloc, kept_slot(alloc, kept), &call.work, call.done) {
-        Ok(slot) => {
-            put_back(slots, place, slot);
-            calls.push(call).is_ok()
-        }
-        Err(slot) => {
-            put_back(slots, place, slot);
-            false
-        }
+    let mut slot = kept_slot(alloc, kept);
+    let is_done = work_on(alloc, &mut slot, &call.work, call.done);
+    put_back(slots, place, slot);
+    if !is_done {
+        return false;
     }
+    calls.push(call).is_ok()
 }
 
 // Keeps a slot of a place that has one.

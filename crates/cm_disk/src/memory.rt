@@ -1,7 +1,8 @@
 //! A disk in memory.
 ghost use Rattle.std.specs.Prelude.{◌≡◌, List, ℕ};
 ghost use Rattle.cm_disk.specs.Stands.{stand_after, IsSmall};
-ghost use Rattle.cm_disk.specs.Slots.{stand_in, same_prop};
+ghost use Rattle.cm_disk.specs.Slots.{stand_in};
+ghost use Rattle.cm_disk.specs.SlotsLaws.{same_prop};
 
 use crate::calls::{Call, Slot};
 use cm_base::Place;

@@ -3,8 +3,8 @@ ghost use Rattle.std.specs.Prelude.{◌≡◌, ◌⊎◌, ◌+◌, ◌-◌, ◌^
 ghost use Rattle.std.specs.Option.{ForSome, option_copied};
 ghost use Rattle.cm_base.specs.Causes.{HasCause};
 ghost use Rattle.cm_disk.specs.Disk.{bytes_of, written, shortened, removed, Does, Reads, LeavesNoMore, Touches, IsThere, Only, Elapses, is_above, IsNext};
-ghost use Rattle.cm_disk.specs.Recorded.{reads_of, leaves_of, moment_of, since_of, faults_of, FailsExactly};
-ghost use Rattle.cm_disk.specs.StandsLaws.{counts, only, as_it_reads, short_files};
+ghost use Rattle.cm_disk.specs.Recorded.{calls_of, reads_of, leaves_of, moment_of, since_of, faults_of, FailsExactly, IsWrite, IsRecorded};
+ghost use Rattle.cm_disk.specs.StandsLaws.{counts, only, as_it_reads, some_image, short_files};
 
 use crate::calls::Work;
 use crate::memory::MemDisk;
@@ -30,6 +30,8 @@ impl Disk for MemDisk {
 
     ghost as_it_reads = { λ d files is. as_it_reads d.calls.items files is };
 
+    ghost some_image = { λ d. some_image d.calls.items };
+
     ghost short = { λ d files place is. short_files d.calls.items d.small files place is };
 
     fn size(&mut self, place: &Place) -> Result<Option<u64>, DiskFault>
@@ -40,6 +42,7 @@ impl Disk for MemDisk {
         ensures time { Elapses (moment_of self.old) (moment_of self.new) (since_of self.old) (since_of self.new) (leaves_of self.new) }
         ensures cause { HasCause (faults_of self.old) (faults_of self.new) result }
         ensures exact { FailsExactly self.old self.new result }
+        ensures recorded { calls_of self.new ≡ calls_of self.old }
     {
         if self.fails() {
             return Err(self.fault());
@@ -62,6 +65,7 @@ impl Disk for MemDisk {
         ensures time { Elapses (moment_of self.old) (moment_of self.new) (since_of self.old) (since_of self.new) (leaves_of self.new) }
         ensures cause { HasCause (faults_of self.old) (faults_of self.new) result }
         ensures exact { FailsExactly self.old self.new result }
+        ensures recorded { calls_of self.new ≡ calls_of self.old }
     {
         if self.fails() {
             return Err(self.fault());
@@ -84,6 +88,7 @@ impl Disk for MemDisk {
         ensures time { Elapses (moment_of self.old) (moment_of self.new) (since_of self.old) (since_of self.new) (leaves_of self.new) }
         ensures cause { HasCause (faults_of self.old) (faults_of self.new) result }
         ensures exact { FailsExactly self.old self.new result }
+        ensures recorded { IsRecorded self.old self.new place.now (IsWrite offset bytes.now) result }
     {
         let Ok(bytes) = owned(self.alloc, bytes) else {
             // It takes a number too.
@@ -101,6 +106,7 @@ impl Disk for MemDisk {
         ensures time { Elapses (moment_of self.old) (moment_of self.new) (since_of self.old) (since_of self.new) (leaves_of self.new) }
         ensures cause { HasCause (faults_of self.old) (faults_of self.new) result }
         ensures exact { FailsExactly self.old self.new result }
+        ensures recorded { IsRecorded self.old self.new place.now (λ work. work ≡ Work.Cut size) result }
     {
         self.change(place, Work::Cut { size })
     }
@@ -111,6 +117,7 @@ impl Disk for MemDisk {
         ensures time { Elapses (moment_of self.old) (moment_of self.new) (since_of self.old) (since_of self.new) (leaves_of self.new) }
         ensures cause { HasCause (faults_of self.old) (faults_of self.new) result }
         ensures exact { FailsExactly self.old self.new result }
+        ensures recorded { IsRecorded self.old self.new place.now (λ work. work ≡ Work.Remove) result }
     {
         self.change(place, Work::Remove)
     }
@@ -122,6 +129,7 @@ impl Disk for MemDisk {
         ensures time { Elapses (moment_of self.old) (moment_of self.new) (since_of self.old) (since_of self.new) (leaves_of self.new) }
         ensures cause { HasCause (faults_of self.old) (faults_of self.new) result }
         ensures exact { FailsExactly self.old self.new result }
+        ensures recorded { IsRecorded self.old self.new place.now (λ work. work ≡ Work.Sync) result }
     {
         self.change(place, Work::Sync)
     }
@@ -134,6 +142,7 @@ impl Disk for MemDisk {
         ensures time { Elapses (moment_of self.old) (moment_of self.new) (since_of self.old) (since_of self.new) (leaves_of self.new) }
         ensures cause { HasCause (faults_of self.old) (faults_of self.new) result }
         ensures exact { FailsExactly self.old self.new result }
+        ensures recorded { calls_of self.new ≡ calls_of self.old }
     {
         if self.fails() {
             return Err(self.fault());

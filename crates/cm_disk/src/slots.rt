@@ -1,7 +1,8 @@
-//! Work on what a disk in memory keeps of one place.
-ghost use Rattle.std.specs.Prelude.{◌≡◌, ◌+◌, ◌^◌, ◌≤◌, ◌∷◌, true, false, if◌then◌else◌, length, take, Some, IfOk, IfErr};
-ghost use Rattle.cm_disk.specs.Disk.{overwritten};
-ghost use Rattle.cm_disk.specs.Stands.{absent, span_of_write, worked};
+//! Work on what a disk in memory keeps of one place, in place. Where there is no memory nothing is changed.
+ghost use Rattle.std.specs.Prelude.{◌≡◌, ◌+◌, ◌^◌, ◌<◌, ◌≤◌, None, Some, if◌then◌else◌, length, take, IfOk, vec_len, vec_capacity};
+ghost use Rattle.cm_disk.specs.Disk.{overwritten, written};
+ghost use Rattle.cm_disk.specs.Images.{IsLeft};
+ghost use Rattle.cm_disk.specs.Stands.{absent, span_of_write, with_span, worked};
 ghost use Rattle.cm_disk.specs.Slots.{file_of, stand_of, stand_of_option, CanDo};
 
 use crate::calls::{Slot, Span, Work};
@@ -33,245 +34,165 @@ pub(crate) fn copied(alloc: Global, file: &Option<Vec<u8>>) -> Result<Option<Vec
     }
 }
 
-fn touched_more(alloc: Global, span: Span, touched: &[Span]) -> Result<Vec<Span>, AllocError>
-    ensures { IfOk result (λ more. more.items ≡ span ∷ touched.now) }
+// Notes one more range as touched. There is room for it.
+fn touch(touched: &mut Vec<Span>, span: Option<Span>)
+    requires { vec_len touched.old < vec_capacity touched.old }
+    ensures { touched.new.items ≡ with_span span touched.old.items }
 {
-    let mut more = Vec::new(alloc);
-    more.push(span)?;
-    more.extend_from_slice(touched)?;
-    Ok(more)
-}
-
-// Bytes over others. At the end they are appended in place. An Err gives the others back: there was no memory.
-fn bytes_over(alloc: Global, old: Vec<u8>, offset: u64, bytes: &[u8]) -> Result<Vec<u8>, Vec<u8>>
-    requires { offset + length bytes.now ≤ 2 ^ 40 + 131072 }
-    ensures made { IfOk result (λ made. made.items ≡ overwritten old.items offset bytes.now) }
-    ensures back { IfErr result (λ back. back.items ≡ old.items) }
-{
-    let mut old = old;
-    if offset >= old.len() as u64 {
-        if old.extend_from_slice(bytes).is_err() {
-            return Err(old);
-        }
-        return Ok(old);
-    }
-    match copied_over(alloc, &old, offset, bytes) {
-        Ok(made) => Ok(made),
-        Err(_) => Err(old),
+    if let Some(span) = span {
+        let _noted = touched.insert(0, span);
     }
 }
 
-fn copied_over(alloc: Global, old: &[u8], offset: u64, bytes: &[u8]) -> Result<Vec<u8>, AllocError>
-    requires { offset + length bytes.now ≤ 2 ^ 40 + 131072 }
-    ensures { IfOk result (λ made. made.items ≡ overwritten old.now offset bytes.now) }
-{
-    let start = (offset as usize).min(old.len());
-    let mut made = old[..start].to_vec(alloc)?;
-    made.extend_from_slice(bytes)?;
-    let end = offset as usize + bytes.len();
-    if end < old.len() {
-        made.extend_from_slice(&old[end..])?;
-    }
-    Ok(made)
-}
-
-fn span_of(file: &Option<Vec<u8>>, offset: u64, count: usize) -> Span
+fn span_of(file: &Option<Vec<u8>>, offset: u64, count: usize) -> Option<Span>
     requires { offset + count ≤ 2 ^ 40 + 131072 }
     ensures { result ≡ span_of_write (file_of file.now) offset count }
 {
-    match file {
-        Some(_) => Span {
-            from: offset,
-            to: Some(offset + count as u64),
-        },
-        None => Span { from: 0, to: None },
+    if file.is_none() {
+        return Some(Span { from: 0, to: None });
     }
+    if count == 0 {
+        return None;
+    }
+    Some(Span {
+        from: offset,
+        to: Some(offset + count as u64),
+    })
 }
 
-fn write_slot(
+// Bytes over others, and past their end.
+fn write_over(old: &mut Vec<u8>, offset: u64, bytes: &[u8]) -> bool
+    requires { offset + length bytes.now ≤ 2 ^ 40 + 131072 }
+    ensures { old.new.items ≡ (if result then overwritten old.old.items offset bytes.now else old.old.items) }
+{
+    let start = (offset as usize).min(old.len());
+    let inside = bytes.len().min(old.len() - start);
+    let (over, beyond) = bytes.split_at(inside);
+    if old.extend_from_slice(beyond).is_err() {
+        return false;
+    }
+    old[start..start + inside].copy_from_slice(over);
+    true
+}
+
+fn write_file(
     alloc: Global,
-    slot: Slot,
+    file: &mut Option<Vec<u8>>,
     offset: u64,
-    bytes: &Vec<u8>,
+    bytes: &[u8],
     done: bool,
-) -> Result<Slot, Slot>
+) -> bool
+    requires { offset + length bytes.now ≤ 2 ^ 40 + 131072 }
+    ensures { file_of file.new ≡ (if result then (if done then written offset bytes.now (file_of file.old) else file_of file.old) else file_of file.old) }
+{
+    if !done {
+        return true;
+    }
+    if let Some(old) = file {
+        return write_over(old, offset, bytes);
+    }
+    let mut made = Vec::new(alloc);
+    if !write_over(&mut made, offset, bytes) {
+        return false;
+    }
+    *file = Some(made);
+    true
+}
+
+fn write_slot(alloc: Global, slot: &mut Slot, offset: u64, bytes: &Vec<u8>, done: bool) -> bool
     requires { offset + length bytes.now.items ≤ 2 ^ 40 + 131072 }
-    ensures made { IfOk result (λ made. stand_of made ≡ worked (Work.Write offset bytes.now) done (stand_of slot)) }
-    ensures back { IfErr result (λ back. stand_of back ≡ stand_of slot) }
+    ensures { stand_of slot.new ≡ (if result then worked (Work.Write offset bytes.now) done (stand_of slot.old) else stand_of slot.old) }
 {
+    if slot.touched.reserve(1).is_err() {
+        return false;
+    }
     let span = span_of(&slot.file, offset, bytes.len());
-    let Ok(more) = touched_more(alloc, span, &slot.touched) else {
-        return Err(slot);
-    };
-    let Slot {
-        file,
-        durable,
-        touched,
-        removed,
-    } = slot;
-    if !done {
-        return Ok(Slot {
-            file,
-            durable,
-            touched: more,
-            removed,
-        });
+    if !write_file(alloc, &mut slot.file, offset, bytes, done) {
+        return false;
     }
-    match file {
-        Some(old) => match bytes_over(alloc, old, offset, bytes) {
-            Ok(made) => Ok(Slot {
-                file: Some(made),
-                durable,
-                touched: more,
-                removed,
-            }),
-            Err(old) => Err(Slot {
-                file: Some(old),
-                durable,
-                touched,
-                removed,
-            }),
-        },
-        None => match bytes_over(alloc, Vec::new(alloc), offset, bytes) {
-            Ok(made) => Ok(Slot {
-                file: Some(made),
-                durable,
-                touched: more,
-                removed,
-            }),
-            Err(_) => Err(Slot {
-                file: None,
-                durable,
-                touched,
-                removed,
-            }),
-        },
-    }
+    touch(&mut slot.touched, span);
+    true
 }
 
-fn shortened(bytes: Vec<u8>, size: u64, done: bool) -> Vec<u8>
-    ensures { Some result.items ≡ (if done then Some (take size bytes.items) else Some bytes.items) }
+fn shorten(bytes: &mut Vec<u8>, size: u64, done: bool)
+    ensures { bytes.new.items ≡ (if done then take size bytes.old.items else bytes.old.items) }
 {
-    let mut bytes = bytes;
-    if !done {
-        return bytes;
-    }
-    if size < bytes.len() as u64 {
+    if done && size < bytes.len() as u64 {
         bytes.truncate(size as usize);
-        return bytes;
     }
-    bytes
 }
 
-fn cut_slot(alloc: Global, slot: Slot, size: u64, done: bool) -> Result<Slot, Slot>
-    ensures made { IfOk result (λ made. stand_of made ≡ worked (Work.Cut size) done (stand_of slot)) }
-    ensures back { IfErr result (λ back. stand_of back ≡ stand_of slot) }
+fn cut_slot(slot: &mut Slot, size: u64, done: bool) -> bool
+    ensures { stand_of slot.new ≡ (if result then worked (Work.Cut size) done (stand_of slot.old) else stand_of slot.old) }
 {
-    let Slot {
-        file,
-        durable,
-        touched,
-        removed,
-    } = slot;
-    let Some(bytes) = file else {
-        return Ok(Slot {
-            file: None,
-            durable,
-            touched,
-            removed,
-        });
+    let Some(bytes) = &mut slot.file else {
+        return true;
     };
+    if slot.touched.reserve(1).is_err() {
+        return false;
+    }
+    shorten(bytes, size, done);
     let span = Span {
         from: size,
         to: None,
     };
-    let Ok(more) = touched_more(alloc, span, &touched) else {
-        return Err(Slot {
-            file: Some(bytes),
-            durable,
-            touched,
-            removed,
-        });
-    };
-    Ok(Slot {
-        file: Some(shortened(bytes, size, done)),
-        durable,
-        touched: more,
-        removed,
-    })
+    touch(&mut slot.touched, Some(span));
+    true
 }
 
-fn remove_slot(alloc: Global, slot: Slot, done: bool) -> Result<Slot, Slot>
-    ensures made { IfOk result (λ made. stand_of made ≡ worked Work.Remove done (stand_of slot)) }
-    ensures back { IfErr result (λ back. stand_of back ≡ stand_of slot) }
+fn clear(file: &mut Option<Vec<u8>>, done: bool)
+    ensures { file_of file.new ≡ (if done then None else file_of file.old) }
 {
-    let Slot {
-        file,
-        durable,
-        touched,
-        removed,
-    } = slot;
-    let Some(bytes) = file else {
-        return Ok(Slot {
-            file: None,
-            durable,
-            touched,
-            removed,
-        });
-    };
-    let Ok(more) = touched_more(alloc, Span { from: 0, to: None }, &touched) else {
-        return Err(Slot {
-            file: Some(bytes),
-            durable,
-            touched,
-            removed,
-        });
-    };
     if done {
-        return Ok(Slot {
-            file: None,
-            durable,
-            touched: more,
-            removed: true,
-        });
+        *file = None;
     }
-    Ok(Slot {
-        file: Some(bytes),
-        durable,
-        touched: more,
-        removed: true,
-    })
 }
 
-fn sync_slot(alloc: Global, slot: Slot, done: bool) -> Result<Slot, Slot>
-    ensures made { IfOk result (λ made. stand_of made ≡ worked Work.Sync done (stand_of slot)) }
-    ensures back { IfErr result (λ back. stand_of back ≡ stand_of slot) }
+fn remove_slot(slot: &mut Slot, done: bool) -> bool
+    ensures { stand_of slot.new ≡ (if result then worked Work.Remove done (stand_of slot.old) else stand_of slot.old) }
+{
+    if slot.file.is_none() {
+        return true;
+    }
+    if slot.touched.reserve(1).is_err() {
+        return false;
+    }
+    clear(&mut slot.file, done);
+    touch(&mut slot.touched, Some(Span { from: 0, to: None }));
+    slot.removed = true;
+    true
+}
+
+fn sync_slot(alloc: Global, slot: &mut Slot, done: bool) -> bool
+    requires { IsLeft (stand_of slot.old) (stand_of slot.old).now }
+    ensures { stand_of slot.new ≡ (if result then worked Work.Sync done (stand_of slot.old) else stand_of slot.old) }
 {
     if !done {
-        return Ok(slot);
+        return true;
+    }
+    // What was not touched is durable.
+    if slot.touched.is_empty() && !slot.removed {
+        return true;
     }
     let Ok(durable) = copied(alloc, &slot.file) else {
-        return Err(slot);
+        return false;
     };
-    let Slot { file, .. } = slot;
-    Ok(Slot {
-        file,
-        durable,
-        touched: Vec::new(alloc),
-        removed: false,
-    })
+    slot.durable = durable;
+    slot.touched.clear();
+    slot.removed = false;
+    true
 }
 
-/// What a call makes of a place. An Err gives the slot back: there was no memory.
-pub(crate) fn worked_slot(alloc: Global, slot: Slot, work: &Work, done: bool) -> Result<Slot, Slot>
-    requires { CanDo work.now }
-    ensures made { IfOk result (λ made. stand_of made ≡ worked work.now done (stand_of slot)) }
-    ensures back { IfErr result (λ back. stand_of back ≡ stand_of slot) }
+/// What a call makes of a place.
+pub(crate) fn work_on(alloc: Global, slot: &mut Slot, work: &Work, done: bool) -> bool
+    requires can { CanDo work.now }
+    requires reads { IsLeft (stand_of slot.old) (stand_of slot.old).now }
+    ensures { stand_of slot.new ≡ (if result then worked work.now done (stand_of slot.old) else stand_of slot.old) }
 {
     match work {
         Work::Write { offset, bytes } => write_slot(alloc, slot, *offset, bytes, done),
-        Work::Cut { size } => cut_slot(alloc, slot, *size, done),
-        Work::Remove => remove_slot(alloc, slot, done),
+        Work::Cut { size } => cut_slot(slot, *size, done),
+        Work::Remove => remove_slot(slot, done),
         Work::Sync => sync_slot(alloc, slot, done),
     }
 }

@@ -2,9 +2,11 @@ pub mod Added
 pub mod Apart
 pub mod BitTexts
 pub mod Bits
+pub mod Found
 pub mod FourTexts
 pub mod FreeTexts
 pub mod Fronts
+pub mod Halving
 pub mod Hex
 pub mod JoinedTexts
 pub mod Machines

@@ -1,5 +1,5 @@
 -- Sites added one by one.
-use Rattle.std.proofs.Common.{◌≡◌, ℕ, Bool, true, false, List, [], ◌∷◌, ◌++◌, None, Some, refl, sym, ap, ◌∙◌, cond, ◌||◌, arith}
+use Rattle.std.proofs.Common.{◌≡◌, ℕ, Bool, true, false, List, [], ◌∷◌, ◌++◌, None, Some, refl, sym, ap, ◌∙◌, cond, ◌||◌, ◌+◌, arith}
 use Rattle.std.specs.List.{list_any}
 use Rattle.std.specs.Str.{bytes_eq}
 use Rattle.std.proofs.Math.Bool.{or-false}
@@ -7,14 +7,14 @@ use Rattle.std.proofs.lemmas.Bool.{true≢false}
 use Rattle.std.proofs.lemmas.Cmp.{nat_list_eq_equiv}
 use Rattle.std.proofs.lemmas.Slice.Eq.{bytes_eq-Decides}
 use Rattle.std.proofs.lemmas.List.Folds.{list_any-append}
-use Rattle.std.proofs.lemmas.List.Sums.{fold-append}
 use Rattle.cm_net.specs.declared.boundary.Boundary.{Boundary}
 use Rattle.cm_net.specs.declared.boundary.Boundary.TheVariants.{Subnet, Site, Prefix6, Range4, Range6}
-use Rattle.cm_net.specs.declared.sites.SiteGroups.{SiteGroups}
-use Rattle.cm_net.specs.Boundaries.{holds_site}
+use Rattle.cm_net.specs.declared.entry.Entry.{Entry}
+use Rattle.cm_net.specs.Boundaries.{holds_site, is_site, rows_of}
 use Rattle.cm_net.specs.Groups.{numbers_of, IsRisingOf}
-use Rattle.cm_net.specs.Sites.{groups_of_site, numbers_there, AreSitesOf}
-use Rattle.cm_net.proofs.Added.{number_if, numbers_of-push}
+use Rattle.cm_net.specs.Sites.{groups_of_site, numbers_there}
+use Rattle.cm_net.proofs.Added.{number_if, numbers_of-push, rows_of-push}
+use Rattle.cm_net.proofs.Found.{last_groups-push}
 use Rattle.std.specs.declared.alloc.Global.{Global}
 use Rattle.std.specs.Prelude.{Vec}
 use Rattle.std.specs.BTreeMap.{is_at}
@@ -23,23 +23,24 @@ use Rattle.std.specs.Map.{keys_of, lookup}
 use Rattle.std.specs.Option.{is_some}
 use Rattle.std.specs.Ordering.{is_eq, nat_cmp}
 use Rattle.std.proofs.Common.{Option}
-use Rattle.std.proofs.lemmas.List.{append-nil}
+use Rattle.std.proofs.lemmas.List.{append-nil, map-append}
+use Rattle.cm_net.specs.Entries.{keys_in}
 use Rattle.std.proofs.lemmas.Map.Made.{is_some-lookup}
 use Rattle.std.proofs.lemmas.Map.Text.{is_eq-slice_cmp}
 
 -- for a name among these the sites have the numbers, for another one none
-abbrev pub IsSiteOf : List (Boundary × ℕ) → List SiteGroups → List ℕ → Bool → Type 0
+abbrev pub IsSiteOf : List (Boundary × ℕ) → List (Entry (List ℕ)) → List ℕ → Bool → Type 0
 IsSiteOf rows sites name true = IsRisingOf (numbers_of (λ boundary. holds_site boundary (Some name)) rows) (groups_of_site sites name)
 IsSiteOf rows sites name false = groups_of_site sites name ≡ []
 
-abbrev pub AreSitesOfSome : List (Boundary × ℕ) → List (List ℕ) → List SiteGroups → Type 0
+abbrev pub AreSitesOfSome : List (Boundary × ℕ) → List (List ℕ) → List (Entry (List ℕ)) → Type 0
 AreSitesOfSome rows names sites = (name : List ℕ) → IsSiteOf rows sites name (list_any (bytes_eq name) names)
 
-pub groups_of_site-push : (xs : List SiteGroups) (s : SiteGroups) (name : List ℕ) → groups_of_site (xs ++ s ∷ []) name ≡ cond (bytes_eq name s.name) s.groups.items (groups_of_site xs name)
-groups_of_site-push xs s name = fold-append (λ (found : List ℕ) (site : SiteGroups). cond (bytes_eq name site.name) site.groups.items found) [] xs (s ∷ [])
+pub groups_of_site-push : (xs : List (Entry (List ℕ))) (s : Entry (List ℕ)) (name : List ℕ) → groups_of_site (xs ++ s ∷ []) name ≡ cond (bytes_eq name s.key) s.groups.items (groups_of_site xs name)
+groups_of_site-push xs s name = last_groups-push (bytes_eq name) xs s
 
 -- the same test of names and of groups
-added : (rows : List (Boundary × ℕ)) (xs new : List SiteGroups) (name : List ℕ) (old : Bool) (groups : List ℕ) (here : Bool)
+added : (rows : List (Boundary × ℕ)) (xs new : List (Entry (List ℕ))) (name : List ℕ) (old : Bool) (groups : List ℕ) (here : Bool)
     → groups_of_site new name ≡ cond here groups (groups_of_site xs name)
     → (here ≡ true → IsRisingOf (numbers_of (λ boundary. holds_site boundary (Some name)) rows) groups)
     → IsSiteOf rows xs name old → IsSiteOf rows new name (old || here)
@@ -48,32 +49,36 @@ added rows xs new name true groups false is right was = rw is was
 added rows xs new name false groups true is right was = rw is (right refl)
 added rows xs new name false groups false is right was = is ∙ was
 
-pub site_added : (rows : List (Boundary × ℕ)) (names : List (List ℕ)) (xs new : List SiteGroups) (s : SiteGroups)
+pub site_added : (rows : List (Boundary × ℕ)) (names : List (List ℕ)) (xs new : List (Entry (List ℕ))) (s : Entry (List ℕ))
     → new ≡ xs ++ s ∷ []
-    → IsRisingOf (numbers_of (λ boundary. holds_site boundary (Some s.name)) rows) s.groups.items
-    → AreSitesOfSome rows names xs → AreSitesOfSome rows (names ++ s.name ∷ []) new
+    → IsRisingOf (numbers_of (λ boundary. holds_site boundary (Some s.key)) rows) s.groups.items
+    → AreSitesOfSome rows names xs → AreSitesOfSome rows (names ++ s.key ∷ []) new
 site_added rows names xs new s is right was = λ name.
-    let test : list_any (bytes_eq name) (names ++ s.name ∷ []) ≡ (list_any (bytes_eq name) names || bytes_eq name s.name) =
-    list_any-append (bytes_eq name) names (s.name ∷ []) ∙ ap (λ (b : Bool). list_any (bytes_eq name) names || b) (or-false (bytes_eq name s.name)) in
-    let groups : groups_of_site new name ≡ cond (bytes_eq name s.name) s.groups.items (groups_of_site xs name) =
-    ap (λ (ys : List SiteGroups). groups_of_site ys name) is ∙ groups_of_site-push xs s name in
-    let here : (bytes_eq name s.name ≡ true → IsRisingOf (numbers_of (λ boundary. holds_site boundary (Some name)) rows) s.groups.items) =
-    λ same. rw ((bytes_eq-Decides name s.name).0 same) right in
-    rw test (added rows xs new name (list_any (bytes_eq name) names) s.groups.items (bytes_eq name s.name) groups here (was name))
+    let test : list_any (bytes_eq name) (names ++ s.key ∷ []) ≡ (list_any (bytes_eq name) names || bytes_eq name s.key) =
+    list_any-append (bytes_eq name) names (s.key ∷ []) ∙ ap (λ (b : Bool). list_any (bytes_eq name) names || b) (or-false (bytes_eq name s.key)) in
+    let groups : groups_of_site new name ≡ cond (bytes_eq name s.key) s.groups.items (groups_of_site xs name) =
+    ap (λ (ys : List (Entry (List ℕ))). groups_of_site ys name) is ∙ groups_of_site-push xs s name in
+    let here : (bytes_eq name s.key ≡ true → IsRisingOf (numbers_of (λ boundary. holds_site boundary (Some name)) rows) s.groups.items) =
+    λ same. rw ((bytes_eq-Decides name s.key).0 same) right in
+    rw test (added rows xs new name (list_any (bytes_eq name) names) s.groups.items (bytes_eq name s.key) groups here (was name))
+
+pub name_added : (names : List (List ℕ)) (xs new : List (Entry (List ℕ))) (s : Entry (List ℕ)) → new ≡ xs ++ s ∷ [] → keys_in xs ≡ names → keys_in new ≡ names ++ s.key ∷ []
+name_added names xs new s is was =
+    ap keys_in is ∙ (map-append (λ (e : Entry (List ℕ)). e.key) xs (s ∷ []) ∙ ap (λ (keys : List (List ℕ)). keys ++ s.key ∷ []) was)
 
 nothing_rises : IsRisingOf [] []
 nothing_rises = record { rising = λ k h. absurd (omega (arith, h)); same = λ x. (λ h. h, λ h. h) }
 
-site_or_none : (rows : List (Boundary × ℕ)) (sites : List SiteGroups) (name : List ℕ) (there : Bool)
+site_or_none : (rows : List (Boundary × ℕ)) (sites : List (Entry (List ℕ))) (name : List ℕ) (there : Bool)
     → (there ≡ false → numbers_of (λ boundary. holds_site boundary (Some name)) rows ≡ [])
     → IsSiteOf rows sites name there → IsRisingOf (numbers_of (λ boundary. holds_site boundary (Some name)) rows) (groups_of_site sites name)
 site_or_none rows sites name true none is = is
 site_or_none rows sites name false none is = rw (is, none refl) nothing_rises
 
-pub all_sites : (rows : List (Boundary × ℕ)) (names : List (List ℕ)) (sites : List SiteGroups)
+pub all_sites : (rows : List (Boundary × ℕ)) (names : List (List ℕ)) (sites : List (Entry (List ℕ)))
     → ((name : List ℕ) → list_any (bytes_eq name) names ≡ false → numbers_of (λ boundary. holds_site boundary (Some name)) rows ≡ [])
-    → AreSitesOfSome rows names sites → AreSitesOf rows sites
-all_sites rows names sites none some = λ name. site_or_none rows sites name (list_any (bytes_eq name) names) (none name) (some name)
+    → AreSitesOfSome rows names sites → (name : List ℕ) → IsRisingOf (numbers_of (λ boundary. holds_site boundary (Some name)) rows) (groups_of_site sites name)
+all_sites rows names sites none some name = site_or_none rows sites name (list_any (bytes_eq name) names) (none name) (some name)
 
 -- no row holds a client without a site by it
 pub no_site : (rows : List (Boundary × ℕ)) → numbers_of (λ boundary. holds_site boundary None) rows ≡ []
@@ -124,6 +129,9 @@ other_row rows row name old other was =
     was ∙ (sym (append-nil (numbers_of (λ boundary. holds_site boundary (Some name)) rows))
     ∙ (ap (λ (b : Bool). numbers_of (λ boundary. holds_site boundary (Some name)) rows ++ number_if b row.1) (sym (no_site_holds row.0 name other))
     ∙ sym (numbers_of-push (λ boundary. holds_site boundary (Some name)) rows row)))
+
+pub site_counted : (rows : List (Boundary × ℕ)) (row : Boundary × ℕ) (site : List ℕ) → row.0 ≡ Site site → rows_of is_site (rows ++ row ∷ []) ≡ rows_of is_site rows + 1
+site_counted rows row site from = rows_of-push is_site rows row ∙ ap (λ (b : Boundary). rows_of is_site rows + cond (is_site b) 1 0) from
 
 -- a name that no entry has
 any_key : (name : List ℕ) (names : List (List ℕ)) → list_any (is_at (slice_cmp nat_cmp name)) names ≡ list_any (bytes_eq name) names

@@ -5,12 +5,17 @@ use Rattle.std.specs.List.{filter, flat_map}
 use Rattle.std.specs.List.Sorted.{IsStrictlyIncreasing}
 use Rattle.std.proofs.lemmas.Bool.{false≢true, cases_lt, cases_Bool, ltb-false, le-leb, lt-leb}
 use Rattle.std.proofs.lemmas.List.Elements.{All-weaker, Contains-append_left, Contains-append_right, at_from_Contains}
+use Rattle.std.specs.List.Sorted.{IsStrictlySortedBy}
+use Rattle.std.specs.Ordering.{nat_cmp}
+use Rattle.std.proofs.Common.{sym, ◌∙◌, take_all}
+use Rattle.std.proofs.lemmas.List.{map-append, length-map, take_more}
+use Rattle.cm_net.specs.Entries.{keys_in}
 use Rattle.std.proofs.lemmas.Map.Keys.{below_from_sorted, sorted_from_strictly_increasing}
 use Rattle.cm_net.specs.declared.span.Span.{Span}
-use Rattle.cm_net.specs.declared.stretches.Stretch.{Stretch}
+use Rattle.cm_net.specs.declared.entry.Entry.{Entry}
 use Rattle.cm_net.specs.Groups.{IsRisingOf}
-use Rattle.cm_net.specs.Spans.{is_in, numbers_at, groups_at, turns_of_span, ArePiecesOf}
-use Rattle.cm_net.proofs.Added.{stretch_added}
+use Rattle.cm_net.specs.Spans.{is_in, numbers_at, groups_at, turns_of_span}
+use Rattle.cm_net.proofs.Added.{segment_added}
 
 -- no turn is behind the one address, up to the other
 abbrev pub AreNoneBetween : List ℕ → ℕ → ℕ → Type 0
@@ -72,34 +77,35 @@ none_between turns j a rising within before t there =
       ])
     ]
 
--- up to the j-th turn the stretches have the numbers of the spans that hold an address
-abbrev pub AreRightBefore : List Span → List ℕ → ℕ → List Stretch → Type 0
-AreRightBefore spans turns j stretches = (a : ℕ) → a < 2 ^ 128 → IsBefore turns j a → IsRisingOf (numbers_at spans a) (groups_at stretches a)
+-- up to the j-th turn the segments have the numbers of the spans that hold an address
+abbrev pub AreRightBefore : List Span → List ℕ → ℕ → List (Entry ℕ) → Type 0
+AreRightBefore spans turns j segments = (a : ℕ) → a < 2 ^ 128 → IsBefore turns j a → IsRisingOf (numbers_at spans a) (groups_at segments a)
 
 pub right_at_first : (spans : List Span) (turns : List ℕ) → Contains turns 0 → AreRightBefore spans turns 0 []
 right_at_first spans turns there a small before =
     let found = at_from_Contains turns 0 there in
     absurd (omega (arith, found.2 0, before found.0 (omega arith) found.1))
 
-pub right_at_last : (spans : List Span) (turns : List ℕ) (j : ℕ) (stretches : List Stretch) → length turns ≤ j → AreRightBefore spans turns j stretches → ArePiecesOf spans stretches
-right_at_last spans turns j stretches end right = λ a small. right a small (λ k from below. absurd (omega (arith, end, from, below)))
+pub right_at_last : (spans : List Span) (turns : List ℕ) (j : ℕ) (segments : List (Entry ℕ)) → length turns ≤ j → AreRightBefore spans turns j segments
+    → (a : ℕ) → a < 2 ^ 128 → IsRisingOf (numbers_at spans a) (groups_at segments a)
+right_at_last spans turns j segments end right a small = right a small (λ k from below. absurd (omega (arith, end, from, below)))
 
-pub right_up_to_next : (spans : List Span) (turns : List ℕ) (j : ℕ) (xs new : List Stretch) (s : Stretch)
+pub right_up_to_next : (spans : List Span) (turns : List ℕ) (j : ℕ) (xs new : List (Entry ℕ)) (s : Entry ℕ)
     → IsRisingOf (0 ∷ flat_map turns_of_span spans) turns → j < length turns
-    → s.start ≡ get_or turns j 0 → new ≡ xs ++ s ∷ []
-    → IsRisingOf (numbers_at spans s.start) s.groups.items
+    → s.key ≡ get_or turns j 0 → new ≡ xs ++ s ∷ []
+    → IsRisingOf (numbers_at spans s.key) s.groups.items
     → AreRightBefore spans turns j xs → AreRightBefore spans turns (j + 1) new
 right_up_to_next spans turns j xs new s rising within start is groups right = λ a small before.
-    let earlier : (k : ℕ) → j ≤ k → k < length turns → a < s.start → a < get_or turns k 0 =
+    let earlier : (k : ℕ) → j ≤ k → k < length turns → a < s.key → a < get_or turns k 0 =
     λ k from below low. elim (cases_lt j k) [
       | inl later ↦ before k (omega (arith, later)) below
       | inr same ↦
           let place : k ≡ j = omega (arith, same, from) in
           omega (arith, low, start, ap (λ (i : ℕ). get_or turns i 0) place)
     ] in
-    stretch_added spans xs new s a is
+    segment_added spans xs new s a is
     (λ low. right a small (λ k from below. earlier k from below low)) groups
-    (λ from. same_numbers spans s.start a from small
+    (λ from. same_numbers spans s.key a from small
     (λ t there. rw start (none_between turns j a rising.rising within before t ((rising.same t).1 (Contains-append_right (0 ∷ []) (flat_map turns_of_span spans) t there)))))
 
 -- the spans that have begun before the j-th turn begin before each later one
@@ -116,3 +122,19 @@ pub begun_at_turn : (sorted : List Span) (n : ℕ) (turns : List ℕ) (j start :
 begun_at_turn sorted n turns j start is within begun =
     All-weaker (λ (s : Span). (k : ℕ) → j ≤ k → k < length turns → s.first ≤ get_or turns k 0) (λ (s : Span). s.first ≤ start)
     (λ s low. omega (arith, is, low j (omega arith) within)) (take n sorted) begun
+
+-- the segments begin at the turns
+pub key_added : (turns : List ℕ) (j : ℕ) (xs new : List (Entry ℕ)) (s : Entry ℕ) → j < length turns → new ≡ xs ++ s ∷ [] → s.key ≡ get_or turns j 0 → keys_in xs ≡ take j turns → keys_in new ≡ take (j + 1) turns
+key_added turns j xs new s within is here was =
+    ap keys_in is ∙ (map-append (λ (e : Entry ℕ). e.key) xs (s ∷ [])
+    ∙ (ap (λ (keys : List ℕ). keys ++ s.key ∷ []) was ∙ (ap (λ (key : ℕ). take j turns ++ key ∷ []) here ∙ sym (take_more turns j 0 within))))
+
+pub all_keys : (turns : List ℕ) (j : ℕ) (xs : List (Entry ℕ)) → length turns ≤ j → keys_in xs ≡ take j turns → keys_in xs ≡ turns
+all_keys turns j xs all was = was ∙ take_all j turns all
+
+pub all_keys_rise : (turns : List ℕ) (j : ℕ) (xs : List (Entry ℕ)) → length turns ≤ j → IsStrictlyIncreasing turns → keys_in xs ≡ take j turns → IsStrictlySortedBy nat_cmp (keys_in xs)
+all_keys_rise turns j xs all rising was = rw (all_keys turns j xs all was) (sorted_from_strictly_increasing turns rising)
+
+pub all_keys_few : (turns : List ℕ) (j n : ℕ) (xs : List (Entry ℕ)) → length turns ≤ j → length turns ≤ n → keys_in xs ≡ take j turns → length xs ≤ n
+all_keys_few turns j n xs all few was =
+    omega (arith, few, length-map xs (λ (e : Entry ℕ). e.key), ap length (all_keys turns j xs all was))

@@ -1,5 +1,5 @@
 -- Which boundaries are sound, and which clients they hold.
-use Rattle.std.specs.Prelude.{◌≡◌, ℕ, ◌-◌, ◌/◌, ◌%◌, ◌^◌, ◌≤◌, ◌==◌, nat_le, ◌&&◌, ◌||◌, Bool, false, List, Option, Some, None}
+use Rattle.std.specs.Prelude.{◌≡◌, ℕ, ◌-◌, ◌/◌, ◌%◌, ◌^◌, ◌≤◌, ◌==◌, nat_le, ◌&&◌, ◌||◌, Bool, true, false, List, count_by, Option, Some, None}
 use Rattle.std.specs.Str.{bytes_eq}
 use Rattle.cm_net.specs.declared.address.Address.{Address}
 use Rattle.cm_net.specs.declared.address.Address.TheVariants.{V4, V6}
@@ -46,3 +46,34 @@ holds_site (Range6 from to) site = false
 -- it holds the client
 abbrev pub is_inside : Boundary → Address → Option (List ℕ) → Bool
 is_inside boundary address site = holds_address boundary address || holds_site boundary site
+
+-- it is of IPv4 addresses, of IPv6 addresses, of a site
+abbrev pub is_four : Boundary → Bool
+is_four (Subnet net bits) = true
+is_four (Site name) = false
+is_four (Prefix6 net bits) = false
+is_four (Range4 from to) = true
+is_four (Range6 from to) = false
+
+abbrev pub is_six : Boundary → Bool
+is_six (Subnet net bits) = false
+is_six (Site name) = false
+is_six (Prefix6 net bits) = true
+is_six (Range4 from to) = false
+is_six (Range6 from to) = true
+
+abbrev pub is_site : Boundary → Bool
+is_site (Subnet net bits) = false
+is_site (Site name) = true
+is_site (Prefix6 net bits) = false
+is_site (Range4 from to) = false
+is_site (Range6 from to) = false
+
+-- it is of addresses of the family of this one
+abbrev pub is_of_family : Address → Boundary → Bool
+is_of_family (V4 address) boundary = is_four boundary
+is_of_family (V6 address) boundary = is_six boundary
+
+-- how many rows have a boundary that passes the test
+abbrev pub rows_of : (Boundary → Bool) → List (Boundary × ℕ) → ℕ
+rows_of test rows = count_by (λ row. test row.0) rows

@@ -1,5 +1,6 @@
 pub mod Addresses
 pub mod Boundaries
+pub mod Entries
 pub mod Faults
 pub mod FourReader
 pub mod Free

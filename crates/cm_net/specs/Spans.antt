@@ -1,11 +1,12 @@
--- Spans of addresses with the numbers of their groups, and the stretches between the ends of spans.
-use Rattle.std.specs.Prelude.{◌≡◌, ◌↔◌, Contains, IsSomeAnd, ◌≤◌, ℕ, ◌+◌, ◌-◌, ◌<◌, ◌^◌, ◌==◌, nat_le, nat_lt, Bool, List, map, filter, fold, [], ◌∷◌, Option, Some, None, max, if◌then◌else◌}
+-- Spans of addresses with the numbers of their groups, and the segments between the ends of spans.
+use Rattle.std.specs.Prelude.{◌≡◌, ◌↔◌, Contains, IsSomeAnd, ◌≤◌, ℕ, ◌+◌, ◌*◌, ◌-◌, ◌<◌, ◌^◌, ◌==◌, nat_le, nat_lt, Bool, List, map, filter, fold, length, [], ◌∷◌, Option, Some, None, max, if◌then◌else◌}
 use Rattle.std.specs.BTreeMap.{BTreeMap, get}
-use Rattle.std.specs.List.Sorted.{IsStrictlyIncreasing}
+use Rattle.std.specs.List.Sorted.{IsStrictlyIncreasing, IsStrictlySortedBy}
 use Rattle.std.specs.Ordering.{nat_cmp}
 use Rattle.cm_net.specs.declared.span.Span.{Span}
-use Rattle.cm_net.specs.declared.stretches.Stretch.{Stretch}
+use Rattle.cm_net.specs.declared.entry.Entry.{Entry}
 use Rattle.cm_net.specs.Boundaries.{is_between}
+use Rattle.cm_net.specs.Entries.{keys_in, last_groups}
 use Rattle.cm_net.specs.Groups.{IsRisingOf}
 
 -- the address is in the span
@@ -16,14 +17,16 @@ is_in address span = is_between span.first span.last address
 abbrev pub numbers_at : List Span → ℕ → List ℕ
 numbers_at spans address = map (λ span. span.group) (filter (λ span. is_in address span) spans)
 
--- what the last stretch that begins at or before the address has
-abbrev pub groups_at : List Stretch → ℕ → List ℕ
-groups_at stretches address =
-    fold (λ found stretch. if nat_le stretch.start address then stretch.groups.items else found) [] stretches
+-- what the last segment that begins at or before the address has
+abbrev pub groups_at : List (Entry ℕ) → ℕ → List ℕ
+groups_at segments address = last_groups (λ start. nat_le start address) segments
 
--- for each address the stretches have the numbers of the spans that hold it
-abbrev pub ArePiecesOf : List Span → List Stretch → Type 0
-ArePiecesOf spans stretches = (address : ℕ) → address < 2 ^ 128 → IsRisingOf (numbers_at spans address) (groups_at stretches address)
+-- The segments, in the order of their first addresses. For each address they have the numbers of the spans that hold it. Each
+-- span makes two more at most.
+pub record AreSegmentsOf (spans : List Span) (segments : List (Entry ℕ)) : Type 0 where
+  pub right : (address : ℕ) → address < 2 ^ 128 → IsRisingOf (numbers_at spans address) (groups_at segments address)
+  pub order : IsStrictlySortedBy nat_cmp (keys_in segments)
+  pub few : length segments ≤ 2 * length spans + 1
 
 -- the first address of the span, and the one behind its last where there is one
 abbrev pub turns_of_span : Span → List ℕ

@@ -1,13 +1,15 @@
 //! The index from a client to its groups.
-ghost use Rattle.std.specs.Prelude.{◌≡◌, ◌++◌, ℕ, ◌<◌, ◌^◌, IfOk, OnOk, All};
+ghost use Rattle.std.specs.Prelude.{◌≡◌, ◌++◌, ℕ, ◌+◌, ◌*◌, ◌-◌, ◌<◌, ◌≤◌, ◌^◌, IfOk, OnOk, All, length};
 ghost use Rattle.std.specs.Option.{option_copied};
-ghost use Rattle.cm_net.specs.Boundaries.{holds_address, holds_site, IsSound};
+ghost use Rattle.cm_net.specs.Boundaries.{holds_address, holds_site, is_four, is_of_family, is_site, is_six, IsSound, rows_of};
 ghost use Rattle.cm_net.specs.Groups.{numbers_of, IsRisingOf};
+ghost use Rattle.cm_net.specs.Indexed.{AreFewSteps};
 ghost use Rattle.cm_net.specs.Spans.{numbers_at, spans_of};
 
-use crate::sites::{SiteGroups, groups_of_site, sites_of};
+use crate::entry::Entry;
+use crate::segments::{groups_at, segments_of};
+use crate::sites::{groups_of_site, sites_of};
 use crate::span::{Span, ends4, ends6};
-use crate::stretches::{Stretch, groups_at, stretches_of};
 use crate::{Address, Boundary, SiteName, Steps};
 use cm_base::Memory;
 use std::alloc::{AllocError, Global};
@@ -19,9 +21,9 @@ use std::sync::ledger::Ledger;
 /// group that has it.
 #[derive(Drop)]
 pub struct Index {
-    four: Vec<Stretch>,
-    six: Vec<Stretch>,
-    sites: Vec<SiteGroups>,
+    four: Vec<Entry<u128>>,
+    six: Vec<Entry<u128>>,
+    sites: Vec<Entry<SiteName>>,
     rows: Snapshot<Vec<(Boundary, u16)>>,
 }
 
@@ -50,7 +52,8 @@ fn add_span(spans: &mut Vec<Span>, ends: Option<(u128, u128)>, group: u16) -> Re
 /// The spans of the IPv4 addresses of the rows, in the order of the rows.
 fn spans4(alloc: Global, rows: &[(Boundary, u16)]) -> Result<Vec<Span>, AllocError>
     requires { All (λ row. IsSound row.0) rows.now }
-    ensures { IfOk result (λ spans. (address : ℕ) → address < 2 ^ 32
+    ensures few { IfOk result (λ spans. length spans.items ≡ rows_of is_four rows.now) }
+    ensures numbers { IfOk result (λ spans. (address : ℕ) → address < 2 ^ 32
         → numbers_at spans.items address ≡ numbers_of (λ boundary. holds_address boundary (Address.V4 address)) rows.now) }
 {
     let mut spans = Vec::new(alloc);
@@ -63,7 +66,8 @@ fn spans4(alloc: Global, rows: &[(Boundary, u16)]) -> Result<Vec<Span>, AllocErr
 /// The spans of the IPv6 addresses of the rows, in the order of the rows.
 fn spans6(alloc: Global, rows: &[(Boundary, u16)]) -> Result<Vec<Span>, AllocError>
     requires { All (λ row. IsSound row.0) rows.now }
-    ensures { IfOk result (λ spans. (address : ℕ) → address < 2 ^ 128
+    ensures few { IfOk result (λ spans. length spans.items ≡ rows_of is_six rows.now) }
+    ensures numbers { IfOk result (λ spans. (address : ℕ) → address < 2 ^ 128
         → numbers_at spans.items address ≡ numbers_of (λ boundary. holds_address boundary (Address.V6 address)) rows.now) }
 {
     let mut spans = Vec::new(alloc);
@@ -80,8 +84,8 @@ impl Index {
         ensures { IfOk result (λ index. index ≡ rows.items) }
     {
         Ok(Index {
-            four: stretches_of(alloc, spans4(alloc, &rows)?)?,
-            six: stretches_of(alloc, spans6(alloc, &rows)?)?,
+            four: segments_of(alloc, spans4(alloc, &rows)?)?,
+            six: segments_of(alloc, spans6(alloc, &rows)?)?,
             sites: sites_of(alloc, &rows)?,
             rows: Snapshot::of(&rows),
         })
@@ -97,7 +101,9 @@ impl Index {
 
     /// The numbers of the groups that have the client by its address.
     fn by_address<L: Ledger>(&self, address: Address, steps: &mut Steps<L>) -> &[u16]
-        ensures { IsRisingOf (numbers_of (λ boundary. holds_address boundary address) self.now) result.now }
+        ensures groups { IsRisingOf (numbers_of (λ boundary. holds_address boundary address) self.now) result.now }
+        ensures later { steps.old ≤ steps.new }
+        ensures few { 2 ^ (steps.new - steps.old) ≤ 4 * rows_of (is_of_family address) self.now + 3 }
     {
         match address {
             Address::V4(address) => groups_at(&self.four, u128::from(address), steps),
@@ -107,7 +113,9 @@ impl Index {
 
     /// The numbers of the groups that have the client by its site.
     fn by_site<L: Ledger>(&self, site: Option<&SiteName>, steps: &mut Steps<L>) -> &[u16]
-        ensures { IsRisingOf (numbers_of (λ boundary. holds_site boundary (option_copied site.entry)) self.now) result.now }
+        ensures groups { IsRisingOf (numbers_of (λ boundary. holds_site boundary (option_copied site.entry)) self.now) result.now }
+        ensures later { steps.old ≤ steps.new }
+        ensures few { 2 ^ (steps.new - steps.old) ≤ 2 * rows_of is_site self.now + 1 }
     {
         match site {
             Some(name) => groups_of_site(&self.sites, name, steps),
@@ -116,7 +124,9 @@ impl Index {
     }
 
     /// The numbers of the groups that have the client by its address, and of those that have it by its site, each list
-    /// rising. One step is one look at the begin of a stretch of addresses or at the name of a site.
+    /// rising. One step is one look at the begin of a segment of addresses or at the name of a site. With k rows of addresses of
+    /// the client's family and m rows of sites it takes at most a + b steps, where a and b are the greatest numbers with
+    /// 2^a <= 4k + 3 and 2^b <= 2m + 1.
     pub fn of<L: Ledger>(
         &self,
         address: Address,
@@ -125,6 +135,7 @@ impl Index {
     ) -> (&[u16], &[u16])
         ensures address { IsRisingOf (numbers_of (λ boundary. holds_address boundary address) self.now) result.0.now }
         ensures site { IsRisingOf (numbers_of (λ boundary. holds_site boundary (option_copied site.entry)) self.now) result.1.now }
+        ensures steps { AreFewSteps address self.now steps.old steps.new }
     {
         (self.by_address(address, steps), self.by_site(site, steps))
     }

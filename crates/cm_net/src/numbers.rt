@@ -1,9 +1,11 @@
 //! Numbers of groups, and addresses, in rising order.
+ghost use Rattle.std.specs.Prelude.{◌≤◌, length};
 ghost use Rattle.cm_net.specs.Groups.{IsRisingOf};
 
 /// The addresses, each once, rising.
 pub(crate) fn rising_addresses(addresses: Vec<u128>) -> Vec<u128>
-    ensures { IsRisingOf addresses.items result.items }
+    ensures those { IsRisingOf addresses.items result.items }
+    ensures few { length result.items ≤ length addresses.items }
 {
     let mut addresses = addresses;
     addresses.sort_unstable();

@@ -1,24 +1,22 @@
 //! The sites of rows, with the numbers of their groups.
-ghost use Rattle.std.specs.Prelude.{◌≡◌, ◌++◌, ◌∷◌, [], ℕ, List, IfOk, OnOk, if◌then◌else◌};
-ghost use Rattle.std.specs.BTreeMap.{get};
+ghost use Rattle.std.specs.Prelude.{◌≡◌, ◌++◌, ◌+◌, ◌≤◌, ◌∷◌, [], ℕ, List, IfOk, OnOk, length, if◌then◌else◌};
+ghost use Rattle.std.specs.BTreeMap.{btree_map_len, get};
+ghost use Rattle.std.specs.List.Sorted.{IsStrictlySortedBy};
 ghost use Rattle.std.specs.Cmp.Lexicographic.{slice_cmp};
 ghost use Rattle.std.specs.Ordering.{nat_cmp};
 ghost use Rattle.std.specs.Str.{bytes_eq};
+ghost use Rattle.cm_net.specs.Boundaries.{is_site, rows_of};
+ghost use Rattle.cm_net.specs.Entries.{TakesHalves, keys_in};
 ghost use Rattle.cm_net.specs.Sites.{groups_of_site, numbers_there, AreSitesOf, HasNumbersOf};
 
+use crate::entry::Entry;
+use crate::halves::place_of;
 use crate::numbers::rising;
 use crate::{Boundary, SiteName, Steps};
 use cm_base::Memory;
 use std::alloc::{AllocError, Global};
 use std::collections::BTreeMap;
 use std::sync::ledger::Ledger;
-
-/// A site, and the numbers of the groups that have it.
-#[derive(Drop)]
-pub(crate) struct SiteGroups {
-    pub name: SiteName,
-    pub groups: Vec<u16>,
-}
 
 /// Adds the number to those of the site.
 fn add_number(
@@ -27,8 +25,9 @@ fn add_number(
     name: &SiteName,
     group: u16,
 ) -> Result<(), AllocError>
-    ensures { OnOk result ((site : List ℕ) → numbers_there (get (slice_cmp nat_cmp) numbers.new site)
+    ensures added { OnOk result ((site : List ℕ) → numbers_there (get (slice_cmp nat_cmp) numbers.new site)
         ≡ numbers_there (get (slice_cmp nat_cmp) numbers.old site) ++ (if bytes_eq site name.now then group ∷ [] else [])) }
+    ensures few { OnOk result (btree_map_len numbers.new ≤ btree_map_len numbers.old + 1) }
 {
     if let Some(list) = numbers.get_mut(name) {
         list.push(group)?;
@@ -43,7 +42,8 @@ fn numbers_by_site(
     alloc: Global,
     rows: &[(Boundary, u16)],
 ) -> Result<BTreeMap<SiteName, Vec<u16>>, AllocError>
-    ensures { IfOk result (HasNumbersOf rows.now) }
+    ensures numbers { IfOk result (HasNumbersOf rows.now) }
+    ensures few { IfOk result (λ numbers. btree_map_len numbers ≤ rows_of is_site rows.now) }
 {
     let mut numbers = BTreeMap::new(alloc);
     for (boundary, group) in rows {
@@ -55,31 +55,32 @@ fn numbers_by_site(
 }
 
 /// The sites of the rows, in order, with the numbers of their groups.
-pub(crate) fn sites_of(alloc: Global, rows: &[(Boundary, u16)]) -> Result<Vec<SiteGroups>, Memory>
+pub(crate) fn sites_of(
+    alloc: Global,
+    rows: &[(Boundary, u16)],
+) -> Result<Vec<Entry<SiteName>>, Memory>
     ensures { IfOk result (λ sites. AreSitesOf rows.now sites.items) }
 {
     let mut sites = Vec::new(alloc);
     for (name, numbers) in numbers_by_site(alloc, rows)? {
         let groups = rising(numbers);
-        sites.push(SiteGroups { name, groups })?;
+        sites.push(Entry::new(name, groups))?;
     }
     Ok(sites)
 }
 
-/// The groups of the site of that name, looked for from the front.
+/// The groups of the site of that name.
 pub(crate) fn groups_of_site<'a, L: Ledger>(
-    sites: &'a [SiteGroups],
+    sites: &'a [Entry<SiteName>],
     name: &SiteName,
     steps: &mut Steps<L>,
 ) -> &'a [u16]
-    ensures { result.now ≡ groups_of_site sites.now name.now }
+    requires { IsStrictlySortedBy (slice_cmp nat_cmp) (keys_in sites.now) }
+    ensures groups { result.now ≡ groups_of_site sites.now name.now }
+    ensures steps { TakesHalves (length sites.now) steps.old steps.new }
 {
-    let mut found: &[u16] = &[];
-    for site in sites {
-        steps.tick();
-        if *name == site.name {
-            found = &site.groups;
-        }
+    match place_of(sites, name, steps) {
+        Ok(place) => sites[place].groups(),
+        Err(_) => &[],
     }
-    found
 }

@@ -1,6 +1,7 @@
 //! The addresses of a boundary, from the first to the last.
 ghost use Rattle.std.specs.Prelude.{◌≡◌, ◌+◌, ◌-◌, ◌^◌, ◌≤◌, ◌<◌, ℕ, false, MatchOption};
-ghost use Rattle.cm_net.specs.Boundaries.{holds_address, IsSound, is_between};
+ghost use Rattle.std.specs.Option.{is_some};
+ghost use Rattle.cm_net.specs.Boundaries.{holds_address, IsSound, is_between, is_four, is_six};
 
 use crate::{Address, Boundary};
 
@@ -23,11 +24,11 @@ fn ones(count: u32) -> u128
     (1 << count) - 1
 }
 
-/// The first and the last of the IPv4 addresses that a boundary holds. None only where it holds none.
-
+/// The first and the last of the IPv4 addresses that a boundary holds. None where it is of no such addresses.
 pub(crate) fn ends4(boundary: &Boundary) -> Option<(u128, u128)>
     requires { IsSound boundary.now }
-    ensures { MatchOption result
+    ensures kind { is_some result ≡ is_four boundary.now }
+    ensures ends { MatchOption result
         ((address : ℕ) → address < 2 ^ 32 → holds_address boundary.now (Address.V4 address) ≡ false)
         (λ ends. (address : ℕ) → address < 2 ^ 32 → holds_address boundary.now (Address.V4 address) ≡ is_between ends.0 ends.1 address) }
 {
@@ -41,11 +42,11 @@ pub(crate) fn ends4(boundary: &Boundary) -> Option<(u128, u128)>
     }
 }
 
-/// The first and the last of the IPv6 addresses that a boundary holds. None only where it holds none.
-
+/// The first and the last of the IPv6 addresses that a boundary holds. None where it is of no such addresses.
 pub(crate) fn ends6(boundary: &Boundary) -> Option<(u128, u128)>
     requires { IsSound boundary.now }
-    ensures { MatchOption result
+    ensures kind { is_some result ≡ is_six boundary.now }
+    ensures ends { MatchOption result
         ((address : ℕ) → address < 2 ^ 128 → holds_address boundary.now (Address.V6 address) ≡ false)
         (λ ends. (address : ℕ) → address < 2 ^ 128 → holds_address boundary.now (Address.V6 address) ≡ is_between ends.0 ends.1 address) }
 {

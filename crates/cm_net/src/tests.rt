@@ -1,10 +1,9 @@
 //! The worked rows, through the public calls.
-ghost use Rattle.std.specs.Prelude.{◌≡◌, ◌<◌, All, IfOk};
-ghost use Rattle.cm_net.specs.Boundaries.{IsSound};
+ghost use Rattle.std.specs.Prelude.{◌≡◌, ◌+◌, ◌<◌, ◌≤◌};
+ghost use Rattle.cm_net.specs.Boundaries.{is_of_family, is_site, rows_of};
 
 use crate::{Address, Boundary, Index, NetFault, SiteName, Steps, inside};
 use arrayvec::ArrayVec;
-use std::alloc::{AllocError, Global};
 use std::marker::Brand;
 use std::process::Abort;
 use std::sync::ledger::{Blank, Ledger};
@@ -18,7 +17,7 @@ fn fault_of(text: &str) -> Option<NetFault> {
 }
 
 #[test]
-fn faults_come_in_order(rt: HostRuntime) {
+fn boundaries_are_read_and_written(rt: HostRuntime) {
     let rows = [
         ("subnet:10.1.2.1/24", NetFault::HostBitsSet),
         ("subnet:10.1.2.0/33", NetFault::BadLength),
@@ -51,11 +50,7 @@ fn faults_come_in_order(rt: HostRuntime) {
     for (text, fault) in rows {
         assert!(rt; fault_of(text) == Some(fault), "{text}");
     }
-}
-
-#[test]
-fn boundaries_are_written_in_one_way(rt: HostRuntime) {
-    let rows = [
+    let spellings = [
         ("prefix:2001:DB8::/32", "prefix:2001:db8:0:0:0:0:0:0/32"),
         ("subnet:0.0.0.0/0", "subnet:0.0.0.0/0"),
         ("subnet:255.255.255.255/32", "subnet:255.255.255.255/32"),
@@ -67,7 +62,7 @@ fn boundaries_are_written_in_one_way(rt: HostRuntime) {
             "range:1111:1111:1111:1111:1111:1111:1111:1111-ffff:ffff:ffff:ffff:ffff:ffff:ffff:ffff",
         ),
     ];
-    for (text, spelling) in rows {
+    for (text, spelling) in spellings {
         let mut out = ArrayVec::new();
         match Boundary::read(text.as_bytes()) {
             Ok(boundary) => boundary.write(&mut out),
@@ -78,7 +73,7 @@ fn boundaries_are_written_in_one_way(rt: HostRuntime) {
 }
 
 #[test]
-fn addresses_are_read(rt: HostRuntime) {
+fn addresses_are_read_and_written(rt: HostRuntime) {
     let rows = [
         ("0.0.0.0", Ok(Address::V4(0))),
         ("255.255.255.255", Ok(Address::V4(0xffff_ffff))),
@@ -117,11 +112,7 @@ fn addresses_are_read(rt: HostRuntime) {
     for (text, answer) in rows {
         assert!(rt; Address::read(text.as_bytes()) == answer, "{text}");
     }
-}
-
-#[test]
-fn addresses_are_written(rt: HostRuntime) {
-    let rows = [
+    let spellings = [
         (Address::V4(0x0a01_0232), "10.1.2.50"),
         (Address::V4(u32::MAX), "255.255.255.255"),
         (Address::V6(1 << 112), "1:0:0:0:0:0:0:0"),
@@ -130,7 +121,7 @@ fn addresses_are_written(rt: HostRuntime) {
             "ffff:ffff:ffff:ffff:ffff:ffff:ffff:ffff",
         ),
     ];
-    for (address, text) in rows {
+    for (address, text) in spellings {
         let mut out = ArrayVec::new();
         address.write(&mut out);
         assert!(rt; out.as_slice() == text.as_bytes(), "{text}");
@@ -175,173 +166,51 @@ fn boundaries_hold_clients(rt: HostRuntime) {
     }
 }
 
-/// Overlapping ranges, some up to the last address, with few numbers of groups.
-fn many_rows(alloc: Global) -> Result<Vec<(Boundary, u16)>, AllocError>
-    ensures { IfOk result (λ rows. All (λ row. IsSound row.0) rows.items) }
-{
-    let mut rows = Vec::new(alloc);
-    for i in 0..1000u32 {
-        let from = i * 4_000_000;
-        let to = from.saturating_add(10_000_000);
-        rows.push((Boundary::Range4 { from, to }, (i * 7 % 50) as u16))?;
-        let first = u128::from(from) << 96;
-        rows.push((
-            Boundary::Range6 {
-                from: first,
-                to: first.saturating_add(1 << 120),
-            },
-            (i % 50) as u16,
-        ))?;
-    }
-    rows.push((
-        Boundary::Range4 {
-            from: u32::MAX,
-            to: u32::MAX,
-        },
-        77,
-    ))?;
-    rows.push((
-        Boundary::Range6 {
-            from: u128::MAX,
-            to: u128::MAX,
-        },
-        78,
-    ))?;
-    Ok(rows)
-}
-
-/// Whether the groups are those of the rows that hold the client, rising.
-fn is_scan(groups: &[u16], rows: &[(Boundary, u16)], address: Address) -> bool
-    requires { All (λ row. IsSound row.0) rows.now }
-{
-    let mut wanted = [false; 100];
-    for (boundary, group) in rows {
-        if inside(boundary, address, None) {
-            wanted[(*group % 100) as usize] = true;
-        }
-    }
-    let count = wanted.iter().filter(|is_wanted| **is_wanted).count();
-    let mut next = 0u32;
-    for group in groups {
-        if u32::from(*group) < next || !wanted[(*group % 100) as usize] {
-            return false;
-        }
-        next = u32::from(*group) + 1;
-    }
-    groups.len() == count
-}
-
-fn agrees_at<L: Ledger>(
+/// Whether the index has these groups for a client by its address and by its site.
+fn is_found<L: Ledger>(
     index: &Index,
-    rows: &[(Boundary, u16)],
     address: Address,
+    site: Option<&SiteName>,
+    by_address: &[u16],
+    by_site: &[u16],
     steps: &mut Steps<L>,
 ) -> bool
-    requires { All (λ row. IsSound row.0) rows.now }
+    ensures three_rows { rows_of (is_of_family address) index.now ≤ 3 → rows_of is_site index.now ≡ 0 → steps.new ≤ steps.old + 3 }
+    ensures no_row { rows_of (is_of_family address) index.now ≡ 0 → rows_of is_site index.now ≡ 0 → steps.new ≤ steps.old + 1 }
 {
-    let (by_address, by_site) = index.of(address, None, steps);
-    by_site.is_empty() && is_scan(by_address, rows, address)
-}
-
-/// Whether the index agrees with a scan at every end of a row, and beside it.
-fn agrees<L: Ledger>(blank: Blank, index: &Index, rows: &[(Boundary, u16)]) -> bool
-    requires name { blank.name ≡ L.name }
-    requires parts { blank.parts ≡ L.parts }
-    requires some { 0 < L.parts }
-    requires sound { All (λ row. IsSound row.0) rows.now }
-{
-    let mut steps = Steps::<L>::new(blank);
-    let mut good = true;
-    for (boundary, _) in rows {
-        match boundary {
-            Boundary::Range4 { from, to } => {
-                for end in [from.saturating_sub(1), *from, *to, to.saturating_add(1)] {
-                    good = good && agrees_at(index, rows, Address::V4(end), &mut steps);
-                }
-            }
-            Boundary::Range6 { from, to } => {
-                for end in [from.saturating_sub(1), *from, *to, to.saturating_add(1)] {
-                    good = good && agrees_at(index, rows, Address::V6(end), &mut steps);
-                }
-            }
-            _ => good = false,
-        }
-    }
-    good
-}
-
-#[test]
-fn an_index_agrees_with_a_scan(rt: HostRuntime) -> Result<(), Fail> {
-    let rows = many_rows(rt.alloc())?;
-    let index = Index::build(rt.alloc(), &rows)?;
-    assert!(rt; agrees::<Brand>(Blank::new(1), &index, &rows));
-    Ok(())
-}
-
-/// The groups by address and by site of one client.
-fn found<L: Ledger>(
-    rt: &impl Abort,
-    blank: Blank,
-    index: &Index,
-    site: Option<&SiteName>,
-    wanted: (&[u16], &[u16]),
-)
-    requires name { blank.name ≡ L.name }
-    requires parts { blank.parts ≡ L.parts }
-    requires some { 0 < L.parts }
-{
-    let mut steps = Steps::<L>::new(blank);
-    let (by_address, by_site) = index.of(Address::V4(7), site, &mut steps);
-    assert!(rt; by_address == wanted.0);
-    assert!(rt; by_site == wanted.1);
-}
-
-#[test]
-fn an_index_finds_sites(rt: HostRuntime) -> Result<(), Fail> {
-    let (Some(paris), Some(lyon)) = (SiteName::read(b"Paris"), SiteName::read(b"lyon")) else {
-        return Err(Fail::new("no names"));
-    };
-    let rows = [
-        (Boundary::Site { name: paris }, 9),
-        (Boundary::Range4 { from: 7, to: 7 }, 4),
-        (Boundary::Site { name: lyon }, 2),
-        (Boundary::Site { name: paris }, 3),
-        (Boundary::Site { name: paris }, 9),
-    ];
-    let index = Index::build(rt.alloc(), &rows)?;
-    let asked = SiteName::read(b"PARIS");
-    found::<Brand>(&rt, Blank::new(1), &index, asked.as_ref(), (&[4], &[3, 9]));
-    let nowhere = SiteName::read(b"nice");
-    found::<Brand>(&rt, Blank::new(1), &index, nowhere.as_ref(), (&[4], &[]));
-    Ok(())
+    let (by_its_address, by_its_site) = index.of(address, site, steps);
+    (by_its_address == by_address) & (by_its_site == by_site)
 }
 
 fn are_counted<L: Ledger>(
     rt: &impl Abort,
     blank: Blank,
     index: &Index,
-    clients: &[(Address, &[u16])],
+    clients: &[(Address, Option<SiteName>, &[u16], &[u16])],
 )
     requires name { blank.name ≡ L.name }
     requires parts { blank.parts ≡ L.parts }
     requires some { 0 < L.parts }
 {
     let mut steps = Steps::<L>::new(blank);
-    for (address, wanted) in clients {
-        let (by_address, by_site) = index.of(*address, None, &mut steps);
-        assert!(rt; by_address == *wanted);
-        assert!(rt; by_site.is_empty());
+    for (address, site, by_address, by_site) in clients {
+        let site = site.as_ref();
+        assert!(rt; is_found(index, *address, site, by_address, by_site, &mut steps));
     }
 }
 
-/// The index has these groups for these clients, who have no site.
-fn are_found(rt: &impl Abort, index: &Index, clients: &[(Address, &[u16])]) {
+/// The index of the rows has these groups for these clients.
+fn are_found(
+    rt: &impl Abort,
+    index: &Index,
+    clients: &[(Address, Option<SiteName>, &[u16], &[u16])],
+) {
     are_counted::<Brand>(rt, Blank::new(1), index, clients);
 }
 
 #[test]
-fn an_index_finds_nested_rows(rt: HostRuntime) -> Result<(), Fail> {
-    let rows = [
+fn an_index_finds_groups(rt: HostRuntime) -> Result<(), Fail> {
+    let nested = [
         (
             Boundary::Subnet {
                 net: 0x0A00_0000,
@@ -358,34 +227,41 @@ fn an_index_finds_nested_rows(rt: HostRuntime) -> Result<(), Fail> {
         ),
         (Boundary::Subnet { net: 0, bits: 0 }, 3),
     ];
-    let index = Index::build(rt.alloc(), &rows)?;
-    let clients: [(Address, &[u16]); 5] = [
-        (Address::V4(0x0A00_0005), &[1, 2, 3]),
-        (Address::V4(0x0A00_0006), &[1, 3]),
-        (Address::V4(0), &[3]),
-        (Address::V4(u32::MAX), &[3]),
-        (Address::V6(5), &[]),
+    let clients: [(Address, Option<SiteName>, &[u16], &[u16]); 5] = [
+        (Address::V4(0x0A00_0005), None, &[1, 2, 3], &[]),
+        (Address::V4(0x0A00_0006), None, &[1, 3], &[]),
+        (Address::V4(0), None, &[3], &[]),
+        (Address::V4(u32::MAX), None, &[3], &[]),
+        (Address::V6(5), None, &[], &[]),
     ];
-    are_found(&rt, &index, &clients);
-    Ok(())
-}
-
-#[test]
-fn a_short_row_within_a_long_one_ends_no_group(rt: HostRuntime) -> Result<(), Fail> {
-    let rows = [
+    are_found(&rt, &Index::build(rt.alloc(), &nested)?, &clients);
+    let (Some(paris), Some(lyon)) = (SiteName::read(b"Paris"), SiteName::read(b"lyon")) else {
+        return Err(Fail::new("no names"));
+    };
+    let mixed = [
+        (Boundary::Site { name: paris }, 9),
         (Boundary::Range4 { from: 10, to: 90 }, 6),
         (Boundary::Range4 { from: 20, to: 30 }, 6),
+        (Boundary::Site { name: lyon }, 2),
         (Boundary::Range4 { from: 91, to: 91 }, 6),
         (Boundary::Range4 { from: 30, to: 40 }, 5),
+        (Boundary::Site { name: paris }, 3),
+        (
+            Boundary::Range6 {
+                from: 7,
+                to: u128::MAX,
+            },
+            4,
+        ),
     ];
-    let index = Index::build(rt.alloc(), &rows)?;
-    let clients: [(Address, &[u16]); 5] = [
-        (Address::V4(9), &[]),
-        (Address::V4(30), &[5, 6]),
-        (Address::V4(41), &[6]),
-        (Address::V4(91), &[6]),
-        (Address::V4(92), &[]),
+    let clients: [(Address, Option<SiteName>, &[u16], &[u16]); 6] = [
+        (Address::V4(9), SiteName::read(b"PARIS"), &[], &[3, 9]),
+        (Address::V4(30), SiteName::read(b"lyon"), &[5, 6], &[2]),
+        (Address::V4(41), SiteName::read(b"nice"), &[6], &[]),
+        (Address::V4(91), None, &[6], &[]),
+        (Address::V4(92), None, &[], &[]),
+        (Address::V6(u128::MAX), None, &[4], &[]),
     ];
-    are_found(&rt, &index, &clients);
+    are_found(&rt, &Index::build(rt.alloc(), &mixed)?, &clients);
     Ok(())
 }

@@ -1,5 +1,5 @@
 //! The addresses at which what spans hold changes.
-ghost use Rattle.std.specs.Prelude.{◌≡◌, ◌++◌, ◌∷◌, IfOk, OnOk};
+ghost use Rattle.std.specs.Prelude.{◌≡◌, ◌+◌, ◌*◌, ◌≤◌, ◌++◌, ◌∷◌, IfOk, OnOk, length};
 ghost use Rattle.std.specs.List.{flat_map};
 ghost use Rattle.cm_net.specs.Groups.{IsRisingOf};
 ghost use Rattle.cm_net.specs.Spans.{turns_of_span};
@@ -33,7 +33,8 @@ fn all_turns(alloc: Global, spans: &[Span]) -> Result<Vec<u128>, AllocError>
 
 /// Address 0 and the turns of the spans, each once, rising.
 pub(crate) fn turns_of(alloc: Global, spans: &[Span]) -> Result<Vec<u128>, AllocError>
-    ensures { IfOk result (λ turns. IsRisingOf (0 ∷ flat_map turns_of_span spans.now) turns.items) }
+    ensures those { IfOk result (λ turns. IsRisingOf (0 ∷ flat_map turns_of_span spans.now) turns.items) }
+    ensures few { IfOk result (λ turns. length turns.items ≤ 2 * length spans.now + 1) }
 {
     Ok(rising_addresses(all_turns(alloc, spans)?))
 }

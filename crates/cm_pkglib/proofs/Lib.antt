@@ -2,6 +2,7 @@ pub mod Among
 pub mod Halves
 pub mod Orders
 pub mod Changed
+pub mod Covered
 pub mod Steps
 pub mod Replays
 pub mod Records

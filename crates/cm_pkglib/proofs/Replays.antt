@@ -7,7 +7,7 @@ use Rattle.cm_pkglib.specs.Valid.{AreValid}
 use Rattle.cm_pkglib.proofs.Steps.{may_open, opened_valid, done_valid, dropped_valid, removed_valid, when_true}
 
 pub no_rows_valid : AreValid no_rows
-no_rows_valid = record { versions_rise = tt; jobs_rise = tt; lasts_rise = tt; apart = tt; below_next = tt; first = omega arith; fits = omega arith; few_versions = omega arith; few_jobs = omega arith; few_entries = omega arith }
+no_rows_valid = record { versions_rise = tt; jobs_rise = tt; lasts_rise = tt; apart = tt; versions_covered = tt; jobs_covered = tt; below_next = tt; first = omega arith; fits = omega arith; few_versions = omega arith; few_jobs = omega arith; few_entries = omega arith }
 
 pub after_valid : (change : Change) (rows : Rows) → AreValid rows → fault_of rows change ≡ None → AreValid (after change rows)
 after_valid (Opened job id version entries size hash) rows valid e =

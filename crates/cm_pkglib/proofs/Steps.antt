@@ -14,11 +14,12 @@ use Rattle.cm_pkglib.specs.declared.fault.RowFault.{RowFault}
 use Rattle.cm_pkglib.specs.declared.fault.RowFault.TheVariants.{VersionThere, JobThere, TooManyVersions, TooManyEntries, TooManyJobs, WrongJob}
 use Rattle.cm_pkglib.specs.Places.{EachPair}
 use Rattle.cm_pkglib.specs.Rows.{Rows, is_of, has_version, job_with, row_of_job, is_unfinished, version_cmp, version_row, with_row, with_last, without_job, without_version, all_entries, all_versions, when, first_of, opened_fault}
-use Rattle.cm_pkglib.specs.Valid.{Differ, VersionsRise, JobsRise, LastsRise, AreValid}
-use Rattle.cm_pkglib.proofs.Among.{All-map, All-append, All-front, All-back, All-insert, All-remove, All-of_map, EachPair-map, EachPair-insert, EachPair-remove, EachPair-before, EachPair-behind, any_none, none_of_any, none_of_find}
+use Rattle.cm_pkglib.specs.Valid.{Differ, VersionsRise, JobsRise, LastsRise, IsCovered, AreValid}
+use Rattle.cm_pkglib.proofs.Among.{All-map, All-append, All-front, All-back, All-insert, All-remove, All-middle, All-of_map, EachPair-map, EachPair-insert, EachPair-remove, EachPair-before, EachPair-behind, any_none, none_of_any, none_of_find}
 use Rattle.cm_pkglib.proofs.Orders.{key_of, key_total, is_of-version_cmp, less_from_lt}
 use Rattle.cm_pkglib.proofs.Halves.{IsSplit, IsSplitAt, splits, find_split, find_split_at, filter_split_at, none_between, flip_greater, is_some_map}
 use Rattle.cm_pkglib.proofs.Changed.{with_row_between, with_last_new, with_last_old}
+use Rattle.cm_pkglib.proofs.Covered.{covered_still, covered_now}
 
 abbrev pub Unfinished : Type 0
 Unfinished = ℕ × PkgRow
@@ -31,6 +32,10 @@ is_of-sym a b = rw (nat_list_eq_equiv.symm b.package a.package, nat_eq_equiv.sym
 
 Differ-sym : (a b : PkgRow) → Differ a b → Differ b a
 Differ-sym a b h = is_of-sym b a ∙ h
+
+-- the greatest version of a job's package is kept
+abbrev JobCovered : List Last → Unfinished → Type 0
+JobCovered lasts u = IsCovered lasts u.1
 
 -- the parts of a test that gives no fault
 when_none : (test : Bool) (fault : RowFault) (faults : List (Option RowFault)) → first_of (when test fault ∷ faults) ≡ None → (test ≡ false) × (first_of faults ≡ None)
@@ -199,6 +204,7 @@ done_split_valid rows valid job s =
     let jobs_len : length rows.jobs ≡ length (s.front ++ s.row ∷ s.back) = ap length s.is in
     let versions_sum : sum_rows rows.versions ≡ sum_rows (g.front ++ g.back) = ap sum_rows g.is in
     let jobs_sum : sum_jobs rows.jobs ≡ sum_jobs (s.front ++ s.row ∷ s.back) = ap sum_jobs s.is in
+    let jobs_covered = subst (AllByRecursion (JobCovered rows.lasts)) s.is valid.jobs_covered in
     let few_versions = valid.few_versions in
     let few_jobs = valid.few_jobs in
     let few_entries = valid.few_entries in
@@ -207,6 +213,8 @@ done_split_valid rows valid job s =
       jobs_rise = EachPair-remove (λ (a b : Unfinished). a.0 < b.0) s.front s.row s.back (subst JobsRise s.is valid.jobs_rise);
       lasts_rise = valid.lasts_rise;
       apart = subst (λ t. EachPair Differ (t ++ (g.front ++ s.row.1 ∷ g.back))) (sym (rows_of-append s.front s.back)) (apart_moved (rows_of s.front) s.row.1 (rows_of s.back) g.front g.back (subst (λ t. EachPair Differ (rows_of s.front ++ s.row.1 ∷ (rows_of s.back ++ t))) g.is apart));
+      versions_covered = All-insert (IsCovered rows.lasts) g.front s.row.1 g.back (All-middle (JobCovered rows.lasts) s.front s.row s.back jobs_covered) (subst (AllByRecursion (IsCovered rows.lasts)) g.is valid.versions_covered);
+      jobs_covered = All-remove (JobCovered rows.lasts) s.front s.row s.back jobs_covered;
       below_next = All-remove (λ (u : Unfinished). u.0 < rows.next) s.front s.row s.back (subst (AllByRecursion (λ (u : Unfinished). u.0 < rows.next)) s.is valid.below_next);
       first = valid.first;
       fits = valid.fits;
@@ -231,6 +239,7 @@ dropped_split_valid rows valid job s =
     let apart = apart_split rows.jobs rows.versions s.front s.row s.back s.is valid.apart in
     let jobs_len : length rows.jobs ≡ length (s.front ++ s.row ∷ s.back) = ap length s.is in
     let jobs_sum : sum_jobs rows.jobs ≡ sum_jobs (s.front ++ s.row ∷ s.back) = ap sum_jobs s.is in
+    let jobs_covered = subst (AllByRecursion (JobCovered rows.lasts)) s.is valid.jobs_covered in
     let few_versions = valid.few_versions in
     let few_jobs = valid.few_jobs in
     let few_entries = valid.few_entries in
@@ -239,6 +248,8 @@ dropped_split_valid rows valid job s =
       jobs_rise = EachPair-remove (λ (a b : Unfinished). a.0 < b.0) s.front s.row s.back (subst JobsRise s.is valid.jobs_rise);
       lasts_rise = valid.lasts_rise;
       apart = subst (λ t. EachPair Differ (t ++ rows.versions)) (sym (rows_of-append s.front s.back)) (apart_removed (rows_of s.front) s.row.1 (rows_of s.back) rows.versions apart);
+      versions_covered = valid.versions_covered;
+      jobs_covered = All-remove (JobCovered rows.lasts) s.front s.row s.back jobs_covered;
       below_next = All-remove (λ (u : Unfinished). u.0 < rows.next) s.front s.row s.back (subst (AllByRecursion (λ (u : Unfinished). u.0 < rows.next)) s.is valid.below_next);
       first = valid.first;
       fits = valid.fits;
@@ -268,6 +279,8 @@ removed_valid rows valid id version there =
       jobs_rise = valid.jobs_rise;
       lasts_rise = valid.lasts_rise;
       apart = subst (EachPair Differ) (append_assoc jobs s.front s.back) (EachPair-remove Differ (jobs ++ s.front) s.row s.back old);
+      versions_covered = All-remove (IsCovered rows.lasts) s.front s.row s.back (subst (AllByRecursion (IsCovered rows.lasts)) s.is valid.versions_covered);
+      jobs_covered = valid.jobs_covered;
       below_next = valid.below_next;
       first = valid.first;
       fits = valid.fits;
@@ -308,11 +321,15 @@ opened_valid rows valid job row may =
     let room = may.few_versions in
     let few_jobs = may.few_jobs in
     let few_entries = may.few_entries in
+    let lasts = with_last row.package row.version rows.lasts in
+    let covered = λ (r : PkgRow) (h : IsCovered rows.lasts r). covered_still row.package row.version rows.lasts valid.lasts_rise r.package r.version h in
     record {
       versions_rise = valid.versions_rise;
       jobs_rise = EachPair-insert (λ (a b : Unfinished). a.0 < b.0) rows.jobs (job, row) [] (subst JobsRise (sym (append-nil rows.jobs)) valid.jobs_rise) (All-map (λ (u : Unfinished). u.0 < rows.next) (λ (u : Unfinished). u.0 < job) (λ u h. omega arith) rows.jobs valid.below_next) tt;
       lasts_rise = lasts_with row.package row.version rows.lasts valid.lasts_rise;
       apart = opened_apart rows job row valid may;
+      versions_covered = All-map (IsCovered rows.lasts) (IsCovered lasts) covered rows.versions valid.versions_covered;
+      jobs_covered = All-append (JobCovered lasts) rows.jobs ((job, row) ∷ []) (All-map (JobCovered rows.lasts) (JobCovered lasts) (λ u h. covered u.1 h) rows.jobs valid.jobs_covered) (covered_now row.package row.version rows.lasts valid.lasts_rise, tt);
       below_next = All-append (λ (u : Unfinished). u.0 < rows.next + 1) rows.jobs ((job, row) ∷ []) (All-map (λ (u : Unfinished). u.0 < rows.next) (λ (u : Unfinished). u.0 < rows.next + 1) (λ u h. omega arith) rows.jobs valid.below_next) (omega arith, tt);
       first = omega arith;
       fits = omega arith;

@@ -1,25 +1,43 @@
--- How often hashes are named.
-use Rattle.std.specs.Prelude.{◌≡◌, ℕ, List, count_by, sum_by, unwrap_or}
+-- How often hashes are named, and which of them are sealed.
+use Rattle.std.specs.Prelude.{◌≡◌, ℕ, ◌+◌, ◌==◌, cond, List, Option, None, Some, count_by, sum_by}
 use Rattle.std.specs.BTreeMap.{get}
 use Rattle.std.specs.Cmp.Lexicographic.{slice_cmp}
 use Rattle.std.specs.Ordering.{nat_cmp}
 use Rattle.std.specs.declared.cmp.Ordering.{Ordering}
 use Rattle.std.specs.Str.{bytes_eq}
 use Rattle.cm_base.specs.declared.hash.Hash.{Hash}
+use Rattle.cm_tree.specs.declared.entry.Entry.{Entry}
+use Rattle.cm_pkglib.specs.declared.counts.Named.{Named}
 use Rattle.cm_pkglib.specs.declared.counts.Counts.{Counts}
 
 -- the order of hashes
 abbrev pub hash_cmp : Hash → Hash → Ordering
 hash_cmp a b = slice_cmp nat_cmp a.0 b.0
 
--- the count of a hash
+abbrev pub count_in : Option Named → ℕ
+count_in None = 0
+count_in (Some named) = named.count
+
+abbrev pub seal_in : Option Named → Option ℕ
+seal_in None = None
+seal_in (Some named) = named.sealed
+
+-- how often a hash is named
 abbrev pub count_of : Counts → Hash → ℕ
-count_of counts hash = unwrap_or (get hash_cmp counts.counts hash) 0
+count_of counts hash = count_in (get hash_cmp counts.hashes hash)
 
--- how often a list of hashes names a hash
-abbrev pub times : Hash → List Hash → ℕ
-times hash hashes = count_by (λ (h : Hash). bytes_eq h.0 hash.0) hashes
+-- the size that a hash is sealed with, none where it is not
+abbrev pub sealed_of : Counts → Hash → Option ℕ
+sealed_of counts hash = seal_in (get hash_cmp counts.hashes hash)
 
--- each count is that of all lists together, counted from scratch
-abbrev pub CountsAll : Counts → List (List Hash) → Type 0
-CountsAll counts lists = (hash : Hash) → count_of counts hash ≡ sum_by (times hash) lists
+-- how many entries of a manifest name a hash
+abbrev pub times : Hash → List Entry → ℕ
+times hash entries = count_by (λ (entry : Entry). bytes_eq entry.hash.0 hash.0) entries
+
+-- each count is that over all manifests, counted from scratch
+abbrev pub CountsAll : Counts → List (List Entry) → Type 0
+CountsAll counts manifests = (hash : Hash) → count_of counts hash ≡ sum_by (times hash) manifests
+
+-- the seal of a hash that is named so often: none where it is named no more
+abbrev pub seal_kept : ℕ → Option ℕ → Option ℕ
+seal_kept count seal = cond (count == 0) None seal

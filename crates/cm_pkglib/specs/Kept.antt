@@ -3,8 +3,19 @@ use Rattle.std.specs.Prelude.{◌≡◌, ℕ, ◌+◌, ◌≤◌}
 use Rattle.cm_pkglib.specs.Rows.{Rows, all_entries}
 use Rattle.cm_pkglib.specs.Valid.{AreValid}
 
--- The rows are those that a library can have, the sum of their entries is kept, and versions have room for those of all jobs.
-pub record AreKept (rows : Rows) (entries jobs versions capacity : ℕ) : Type 0 where
+-- How many rows a list has, and for how many memory is taken.
+pub record ListSize : Type 0 where
+  pub len : ℕ
+  pub capacity : ℕ
+
+-- The three lists have room for so many further jobs and their packages, and for the versions of these and of all jobs there are.
+pub record HasRoom (room : ℕ) (of_jobs of_lasts of_versions : ListSize) : Type 0 where
+  pub jobs : of_jobs.len + room ≤ of_jobs.capacity
+  pub lasts : of_lasts.len + room ≤ of_lasts.capacity
+  pub versions : of_versions.len + of_jobs.len + room ≤ of_versions.capacity
+
+-- The rows are those that a library can have, the sum of their entries is kept, and so is the room.
+pub record AreKept (rows : Rows) (entries room : ℕ) (of_jobs of_lasts of_versions : ListSize) : Type 0 where
   pub valid : AreValid rows
   pub sum : entries ≡ all_entries rows
-  pub room : versions + jobs ≤ capacity
+  pub has_room : HasRoom room of_jobs of_lasts of_versions

@@ -1,7 +1,10 @@
 -- The laws of rows and of records.
-use Rattle.std.specs.Prelude.{◌≡◌, ◌↔◌, ℕ, List, [], ◌++◌, Some}
+use Rattle.std.specs.Prelude.{◌≡◌, ◌↔◌, ℕ, List, [], ◌++◌, None, Some}
+use Rattle.cm_base.specs.declared.hash.Hash.{Hash}
+use Rattle.cm_pkglib.specs.declared.counts.Counts.{Counts}
 use Rattle.cm_pkglib.specs.declared.change.Change.{Change}
 use Rattle.cm_pkglib.specs.Changes.{AreBytes, IsChange, IsRecord, spelled, read_change}
+use Rattle.cm_pkglib.specs.Counts.{count_of, sealed_of}
 use Rattle.cm_pkglib.specs.Rows.{Rows, no_rows, then_replay, replay}
 use Rattle.cm_pkglib.specs.Valid.{AreValid}
 
@@ -24,3 +27,7 @@ pub record SpellingsAreOwn : Type 0 where
   pub one_spelling : (change : Change) (a b : List ℕ) → IsRecord change a → IsRecord change b → a ≡ b
   pub one_change : (a b : Change) (bytes : List ℕ) → IsRecord a bytes → IsRecord b bytes → a ≡ b
   pub no_prefix : (a b : Change) (bytes more : List ℕ) → IsRecord a bytes → IsRecord b (bytes ++ more) → more ≡ []
+
+-- What is sealed is named.
+abbrev pub SealedAreNamed : Type 0
+SealedAreNamed = (counts : Counts) (hash : Hash) → count_of counts hash ≡ 0 → sealed_of counts hash ≡ None

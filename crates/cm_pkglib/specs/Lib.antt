@@ -1,5 +1,6 @@
 pub mod Changes
 pub mod Counts
+pub mod InMemory
 pub mod Kept
 pub mod Laws
 pub mod Places

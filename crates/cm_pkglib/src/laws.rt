@@ -1,5 +1,5 @@
 //! Laws of the definitions, proved.
-ghost use Rattle.cm_pkglib.specs.Laws.{ReplayStaysValid, ReplayInParts, RecordsAreRead, SpellingsAreOwn};
+ghost use Rattle.cm_pkglib.specs.Laws.{ReplayStaysValid, ReplayInParts, RecordsAreRead, SpellingsAreOwn, SealedAreNamed};
 
 /// What changes make of a library's rows keeps the limits and the order of rows.
 pub fn replay_stays_valid()
@@ -19,4 +19,9 @@ pub fn records_are_read()
 /// A change has one spelling, no other change has it, and none is a proper prefix of another.
 pub fn spellings_are_own()
     ensures { SpellingsAreOwn }
+{}
+
+/// What is sealed is named.
+pub fn sealed_are_named()
+    ensures { SealedAreNamed }
 {}

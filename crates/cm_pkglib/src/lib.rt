@@ -17,6 +17,8 @@ mod tests;
 pub use change::Change;
 pub use counts::Counts;
 pub use fault::RowFault;
-pub use laws::{records_are_read, replay_goes_in_parts, replay_stays_valid, spellings_are_own};
+pub use laws::{
+    records_are_read, replay_goes_in_parts, replay_stays_valid, sealed_are_named, spellings_are_own,
+};
 pub use row::PkgRow;
 pub use rows::Rows;

@@ -15,6 +15,7 @@ pub fn take_job(jobs: &mut Vec<(JobId, PkgRow)>, job: JobId) -> PkgRow
     ensures row { row_of_job job jobs.old.items ≡ Some result }
     ensures rest { jobs.new.items ≡ without_job job jobs.old.items }
     ensures len { vec_len jobs.new + 1 ≡ vec_len jobs.old }
+    ensures capacity { vec_capacity jobs.new ≡ vec_capacity jobs.old }
 {
     match job_place(jobs, job) {
         Ok(at) => jobs.remove(at).1,
@@ -64,7 +65,9 @@ fn greater(a: Version, b: Version) -> Version
 pub fn put_last(lasts: &mut Vec<(PackageId, Version)>, id: PackageId, version: Version)
     requires rising { LastsRise lasts.old.items }
     requires room { vec_len lasts.old < vec_capacity lasts.old }
-    ensures { lasts.new.items ≡ with_last id version lasts.old.items }
+    ensures lasts { lasts.new.items ≡ with_last id version lasts.old.items }
+    ensures len { vec_len lasts.new ≤ vec_len lasts.old + 1 }
+    ensures capacity { vec_capacity lasts.old ≤ vec_capacity lasts.new }
 {
     match last_place(lasts, id) {
         Ok(at) => {
@@ -82,6 +85,7 @@ pub fn put_job(jobs: &mut Vec<(JobId, PkgRow)>, job: JobId, row: PkgRow)
     requires { vec_len jobs.old < vec_capacity jobs.old }
     ensures jobs { jobs.new.items ≡ jobs.old.items ++ (job, row) ∷ [] }
     ensures len { vec_len jobs.new ≡ vec_len jobs.old + 1 }
+    ensures capacity { vec_capacity jobs.old ≤ vec_capacity jobs.new }
 {
     let _put = jobs.push((job, row));
 }
@@ -96,8 +100,11 @@ pub fn make_room(
     ensures lasts { lasts.new.items ≡ lasts.old.items }
     ensures versions { versions.new.items ≡ versions.old.items }
     ensures jobs_len { vec_len jobs.new ≡ vec_len jobs.old }
+    ensures lasts_len { vec_len lasts.new ≡ vec_len lasts.old }
     ensures versions_len { vec_len versions.new ≡ vec_len versions.old }
-    ensures capacity { vec_capacity versions.old ≤ vec_capacity versions.new }
+    ensures jobs_capacity { vec_capacity jobs.old ≤ vec_capacity jobs.new }
+    ensures lasts_capacity { vec_capacity lasts.old ≤ vec_capacity lasts.new }
+    ensures versions_capacity { vec_capacity versions.old ≤ vec_capacity versions.new }
     ensures jobs_room { OnOk result (vec_len jobs.new < vec_capacity jobs.new) }
     ensures lasts_room { OnOk result (vec_len lasts.new < vec_capacity lasts.new) }
     ensures versions_room { OnOk result (vec_len versions.new + vec_len jobs.new + 1 ≤ vec_capacity versions.new) }

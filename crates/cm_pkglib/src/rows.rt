@@ -1,8 +1,9 @@
 //! The rows of a library, and the changes that they take.
-ghost use Rattle.std.specs.Prelude.{◌≡◌, ◌+◌, ◌-◌, ◌^◌, ◌<◌, false, None, OnOk, OnErr, IsOk};
+ghost use Rattle.std.specs.Prelude.{◌≡◌, ◌+◌, ◌-◌, ◌^◌, ◌<◌, ◌≤◌, max, false, None, OnOk, OnErr, IsOk};
 ghost use Rattle.std.specs.Result.{result_err};
 ghost use Rattle.cm_pkglib.specs.declared.change.Change.TheVariants.{Opened, Done, Dropped, Removed};
 ghost use Rattle.cm_pkglib.specs.Rows.{no_rows, fault_of, opened_fault, last_of, all_entries, after, is_opened};
+ghost use Rattle.cm_pkglib.specs.InMemory.{needed_room, with_room, applied};
 ghost use Rattle.cm_pkglib.specs.Valid.{AreValid};
 
 use crate::moves::{make_room, put_job, put_last, put_row, take_job, take_row};
@@ -19,7 +20,7 @@ const MOST_JOBS: usize = 256;
 const MOST_ENTRIES: u32 = 400_000;
 
 /// The versions and the unfinished jobs of a library, the next job's number, and the greatest version opened of each package.
-/// Contracts see these four.
+/// Contracts see these four, and for how many further jobs memory is taken.
 #[derive(Drop)]
 pub struct Rows {
     versions: Vec<PkgRow>,
@@ -28,18 +29,20 @@ pub struct Rows {
     lasts: Vec<(PackageId, Version)>,
     // of versions and jobs together
     entries: u32,
+    // for how many further jobs each list has memory
+    room: u32,
 }
 
 impl Model for Rows {
     ghost use Rattle.std.specs.Prelude.{vec_len, vec_capacity};
-    ghost use Rattle.cm_pkglib.specs.Rows.{Rows as LibraryRows};
+    ghost use Rattle.cm_pkglib.specs.InMemory.{RowsInMemory};
     ghost use Rattle.cm_pkglib.specs.Kept.{AreKept};
 
-    ghost Value = { LibraryRows };
+    ghost Value = { RowsInMemory };
 
-    ghost view = { λ r. record { versions = r.versions.items; jobs = r.jobs.items; next = r.next; lasts = r.lasts.items } };
+    ghost view = { λ r. record { rows = record { versions = r.versions.items; jobs = r.jobs.items; next = r.next; lasts = r.lasts.items }; room = r.room } };
 
-    ghost invariant = { λ r. AreKept (record { versions = r.versions.items; jobs = r.jobs.items; next = r.next; lasts = r.lasts.items }) r.entries (vec_len r.jobs) (vec_len r.versions) (vec_capacity r.versions) };
+    ghost invariant = { λ r. AreKept (record { versions = r.versions.items; jobs = r.jobs.items; next = r.next; lasts = r.lasts.items }) r.entries r.room (record { len = vec_len r.jobs; capacity = vec_capacity r.jobs }) (record { len = vec_len r.lasts; capacity = vec_capacity r.lasts }) (record { len = vec_len r.versions; capacity = vec_capacity r.versions }) };
 }
 
 // The number behind a job's.
@@ -56,7 +59,8 @@ fn job_behind(job: JobId) -> JobId
 impl Rows {
     /// The rows of an empty library, without memory.
     pub fn new(alloc: Global) -> Rows
-        ensures { result ≡ no_rows }
+        ensures rows { result.rows ≡ no_rows }
+        ensures room { result.room ≡ 0 }
     {
         let next = match JobId::new(1) {
             Some(next) => next,
@@ -68,50 +72,51 @@ impl Rows {
             next,
             lasts: Vec::new(alloc),
             entries: 0,
+            room: 0,
         }
     }
 
     /// The versions, rising by package and version.
     pub fn versions(&self) -> &[PkgRow]
-        ensures value { result.now ≡ self.now.versions }
-        ensures valid { AreValid self.now }
+        ensures value { result.now ≡ self.now.rows.versions }
+        ensures valid { AreValid self.now.rows }
     {
         &self.versions
     }
 
     /// The unfinished jobs, rising by number, each with the version that it is to make.
     pub fn jobs(&self) -> &[(JobId, PkgRow)]
-        ensures value { result.now ≡ self.now.jobs }
-        ensures valid { AreValid self.now }
+        ensures value { result.now ≡ self.now.rows.jobs }
+        ensures valid { AreValid self.now.rows }
     {
         &self.jobs
     }
 
     /// The next job's number.
     pub fn next(&self) -> JobId
-        ensures { result ≡ self.now.next }
+        ensures { result ≡ self.now.rows.next }
     {
         self.next
     }
 
     /// The greatest version opened of each package, rising by package.
     pub fn lasts(&self) -> &[(PackageId, Version)]
-        ensures value { result.now ≡ self.now.lasts }
-        ensures valid { AreValid self.now }
+        ensures value { result.now ≡ self.now.rows.lasts }
+        ensures valid { AreValid self.now.rows }
     {
         &self.lasts
     }
 
     /// The greatest version opened of a package. None exactly where none was ever opened.
     pub fn last(&self, id: PackageId) -> Option<Version>
-        ensures { result ≡ last_of id self.now.lasts }
+        ensures { result ≡ last_of id self.now.rows.lasts }
     {
         last_version(&self.lasts, id)
     }
 
     /// The number of entries of all versions and unfinished jobs together, at most 400,000.
     pub fn entries(&self) -> u32
-        ensures { result ≡ all_entries self.now }
+        ensures { result ≡ all_entries self.now.rows }
     {
         self.entries
     }
@@ -123,7 +128,7 @@ impl Rows {
         version: Version,
         entries: u32,
     ) -> Option<RowFault>
-        ensures { result ≡ opened_fault self.now job id version entries }
+        ensures { result ≡ opened_fault self.now.rows job id version entries }
     {
         if has_row(&self.versions, id, version) {
             return Some(RowFault::VersionThere);
@@ -147,8 +152,8 @@ impl Rows {
     }
 
     fn job_fault(&self, job: JobId) -> Option<RowFault>
-        ensures done { result ≡ fault_of self.now (Done job) }
-        ensures dropped { result ≡ fault_of self.now (Dropped job) }
+        ensures done { result ≡ fault_of self.now.rows (Done job) }
+        ensures dropped { result ≡ fault_of self.now.rows (Dropped job) }
     {
         if has_job(&self.jobs, job) {
             None
@@ -158,7 +163,7 @@ impl Rows {
     }
 
     fn removed_fault(&self, id: PackageId, version: Version) -> Option<RowFault>
-        ensures { result ≡ fault_of self.now (Removed id version) }
+        ensures { result ≡ fault_of self.now.rows (Removed id version) }
     {
         if has_row(&self.versions, id, version) {
             None
@@ -168,7 +173,7 @@ impl Rows {
     }
 
     fn fault(&self, change: &Change) -> Option<RowFault>
-        ensures { result ≡ fault_of self.now change.now }
+        ensures { result ≡ fault_of self.now.rows change.now }
     {
         match change {
             Change::Opened {
@@ -186,7 +191,7 @@ impl Rows {
 
     /// Whether the rows take the change. An Err has the first cause, in the order of [`RowFault`], for which they do not.
     pub fn check(&self, change: &Change) -> Result<(), RowFault>
-        ensures { result_err result ≡ fault_of self.now change.now }
+        ensures { result_err result ≡ fault_of self.now.rows change.now }
     {
         match self.fault(change) {
             None => Ok(()),
@@ -194,49 +199,75 @@ impl Rows {
         }
     }
 
-    fn open(&mut self, job: JobId, row: PkgRow) -> Result<(), Memory>
-        requires { fault_of self.old (Opened job row.package row.version row.entries row.size row.hash) ≡ None }
-        ensures ok { OnOk result (self.new ≡ after (Opened job row.package row.version row.entries row.size row.hash) self.old) }
+    // Room for one further job at least.
+    fn have_room(&mut self) -> Result<(), Memory>
+        ensures ok { OnOk result (self.new ≡ with_room 1 self.old) }
         ensures memory { OnErr result (self.new ≡ self.old) }
+        ensures in_room { 1 ≤ self.old.room → IsOk result }
     {
-        make_room(&mut self.jobs, &mut self.lasts, &mut self.versions)?;
+        if self.room == 0 {
+            make_room(&mut self.jobs, &mut self.lasts, &mut self.versions)?;
+            self.room = 1;
+        }
+        Ok(())
+    }
+
+    /// Takes the memory that a change will need, that of its job's end too, and keeps it until the change is applied. Only the
+    /// opening of a job needs any. After an Err the rows are as before.
+    pub fn make_room(&mut self, change: &Change) -> Result<(), Memory>
+        ensures ok { OnOk result (self.new ≡ with_room (needed_room change.now) self.old) }
+        ensures memory { OnErr result (self.new ≡ self.old) }
+        ensures in_room { needed_room change.now ≤ self.old.room → IsOk result }
+    {
+        match change {
+            Change::Opened { .. } => self.have_room(),
+            _ => Ok(()),
+        }
+    }
+
+    fn open(&mut self, job: JobId, row: PkgRow)
+        requires free { fault_of self.old.rows (Opened job row.package row.version row.entries row.size row.hash) ≡ None }
+        requires room { 1 ≤ self.old.room }
+        ensures { self.new ≡ applied (Opened job row.package row.version row.entries row.size row.hash) self.old }
+    {
+        self.room -= 1;
         self.entries += row.entries;
         self.next = job_behind(job);
         put_last(&mut self.lasts, row.package, row.version);
         put_job(&mut self.jobs, job, row);
-        Ok(())
     }
 
     fn finish(&mut self, job: JobId)
-        requires { fault_of self.old (Done job) ≡ None }
-        ensures { self.new ≡ after (Done job) self.old }
+        requires { fault_of self.old.rows (Done job) ≡ None }
+        ensures { self.new ≡ applied (Done job) self.old }
     {
         let row = take_job(&mut self.jobs, job);
         put_row(&mut self.versions, row);
     }
 
     fn give_up(&mut self, job: JobId)
-        requires { fault_of self.old (Dropped job) ≡ None }
-        ensures { self.new ≡ after (Dropped job) self.old }
+        requires { fault_of self.old.rows (Dropped job) ≡ None }
+        ensures { self.new ≡ applied (Dropped job) self.old }
     {
         let row = take_job(&mut self.jobs, job);
         self.entries -= row.entries;
     }
 
     fn remove(&mut self, id: PackageId, version: Version)
-        requires { fault_of self.old (Removed id version) ≡ None }
-        ensures { self.new ≡ after (Removed id version) self.old }
+        requires { fault_of self.old.rows (Removed id version) ≡ None }
+        ensures { self.new ≡ applied (Removed id version) self.old }
     {
         let row = take_row(&mut self.versions, id, version);
         self.entries -= row.entries;
     }
 
-    /// Makes a change that [`Rows::check`] takes. Only the opening of a job takes memory, also that which its end will need.
-    /// After an Err the rows are as before.
+    /// Makes a change that [`Rows::check`] takes. It takes no memory where there is room for it, as after [`Rows::make_room`],
+    /// and else only for the opening of a job, also that which its end will need. After an Err the rows are as before.
     pub fn apply(&mut self, change: &Change) -> Result<(), Memory>
-        requires { fault_of self.old change.now ≡ None }
-        ensures ok { OnOk result (self.new ≡ after change.now self.old) }
+        requires { fault_of self.old.rows change.now ≡ None }
+        ensures ok { OnOk result (self.new ≡ applied change.now self.old) }
         ensures memory { OnErr result (self.new ≡ self.old) }
+        ensures in_room { needed_room change.now ≤ self.old.room → IsOk result }
         ensures opened_alone { is_opened change.now ≡ false → IsOk result }
     {
         match change {
@@ -247,28 +278,23 @@ impl Rows {
                 entries,
                 size,
                 hash,
-            } => self.open(
-                *job,
-                PkgRow {
-                    package: *package,
-                    version: *version,
-                    entries: *entries,
-                    size: *size,
-                    hash: *hash,
-                },
-            ),
-            Change::Done { job } => {
-                self.finish(*job);
-                Ok(())
+            } => {
+                self.have_room()?;
+                self.open(
+                    *job,
+                    PkgRow {
+                        package: *package,
+                        version: *version,
+                        entries: *entries,
+                        size: *size,
+                        hash: *hash,
+                    },
+                );
             }
-            Change::Dropped { job } => {
-                self.give_up(*job);
-                Ok(())
-            }
-            Change::Removed { package, version } => {
-                self.remove(*package, *version);
-                Ok(())
-            }
+            Change::Done { job } => self.finish(*job),
+            Change::Dropped { job } => self.give_up(*job),
+            Change::Removed { package, version } => self.remove(*package, *version),
         }
+        Ok(())
     }
 }

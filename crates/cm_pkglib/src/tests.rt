@@ -3,6 +3,8 @@ ghost use Rattle.std.specs.Prelude.{◌<◌};
 
 use crate::{Change, Counts, PkgRow, RowFault, Rows};
 use cm_base::{Hash, JobId, Memory, PackageId, Version};
+use cm_tree::Manifest;
+use std::alloc::Global;
 use std::test::Fail;
 
 // Opened(1, PS100001, 1, 3 entries, 140 bytes) with a hash of 32 times 0xab.
@@ -21,33 +23,35 @@ const REMOVED: [u8; 13] = [
     4, 0x50, 0x53, 0x31, 0x30, 0x30, 0x30, 0x30, 0x31, 0, 0, 0, 0x80,
 ];
 
-// A record with one byte changed.
-fn off<const N: usize>(record: [u8; N], at: usize, byte: u8) -> bool
-    requires { at < N }
-{
-    let mut bytes = record;
-    bytes[at] = byte;
-    Change::decode(&bytes).is_none()
+// The bytes are no record.
+#[derive(Clone, Copy)]
+struct Off<'a> {
+    record: &'a [u8],
+    at: usize,
+    byte: u8,
 }
 
-// A record with one byte more.
-fn with_more(record: &[u8]) -> bool {
+// A record with one byte changed is none, or, at its end, with one byte more.
+fn is_off(off: Off) -> bool {
     let mut bytes = [0; 64];
-    if record.len() >= bytes.len() {
+    let len = off.record.len().max(off.at.saturating_add(1));
+    if len > bytes.len() || off.at >= len {
         return false;
     }
-    bytes[..record.len()].copy_from_slice(record);
-    Change::decode(&bytes[..record.len() + 1]).is_none()
+    bytes[..off.record.len()].copy_from_slice(off.record);
+    bytes[off.at] = off.byte;
+    Change::decode(&bytes[..len]).is_none()
 }
 
-// A record that is read is written as the same bytes.
+// A record without its last byte is none.
+fn is_cut_off(record: &[u8]) -> bool {
+    !record.is_empty() && Change::decode(&record[..record.len() - 1]).is_none()
+}
+
+// A record is read, and written again as the same bytes.
 fn comes_back(record: &[u8]) -> bool {
     match Change::decode(record) {
-        Some(change) => {
-            let mut out = [0; 61];
-            let len = change.encode(&mut out);
-            len == record.len() && &out[..len] == record
-        }
+        Some(change) => is_written(&change, record),
         None => false,
     }
 }
@@ -80,49 +84,68 @@ fn is_first(change: &Change) -> bool {
 }
 
 #[test]
-fn records_are_read(rt: HostRuntime) -> Result<(), Fail> {
+fn records(rt: HostRuntime) -> Result<(), Fail> {
     let first = Change::decode(&OPENED).ok_or("no opening")?;
     assert!(rt; is_first(&first));
-    assert!(rt; comes_back(&OPENED));
-    assert!(rt; comes_back(&DONE));
-    assert!(rt; comes_back(&DROPPED));
-    assert!(rt; comes_back(&REMOVED));
-    Ok(())
-}
-
-#[test]
-fn changes_are_written(rt: HostRuntime) -> Result<(), Fail> {
-    assert!(rt; is_written(&change_of(Line::Open(1, b'1', 1, 3))?, &OPENED));
-    assert!(rt; is_written(&change_of(Line::Done(263))?, &DONE));
-    assert!(rt; is_written(&change_of(Line::Drop(u64::MAX))?, &DROPPED));
-    assert!(rt; is_written(&change_of(Line::Remove(b'1', 0x8000_0000))?, &REMOVED));
+    let lines = [
+        (Line::Open(1, b'1', 1, 3), OPENED.as_slice()),
+        (Line::Done(263), DONE.as_slice()),
+        (Line::Drop(u64::MAX), DROPPED.as_slice()),
+        (Line::Remove(b'1', 0x8000_0000), REMOVED.as_slice()),
+    ];
+    for (line, record) in lines.iter() {
+        assert!(rt; is_written(&change_of(*line)?, *record));
+        assert!(rt; comes_back(*record));
+        assert!(rt; is_cut_off(*record));
+        let more = Off {
+            record: *record,
+            at: record.len(),
+            byte: 0,
+        };
+        assert!(rt; is_off(more));
+    }
+    assert!(rt; Change::decode(&[]).is_none(), "no byte");
     Ok(())
 }
 
 #[test]
 fn one_wrong_byte(rt: HostRuntime) {
-    assert!(rt; off(OPENED, 0, 0), "kind 0");
-    assert!(rt; off(OPENED, 0, 5), "kind 5");
-    assert!(rt; off(OPENED, 0, 2), "kind 2 at the length of kind 1");
-    assert!(rt; off(OPENED, 1, 0), "job 0");
-    assert!(rt; off(OPENED, 9, b'p'), "a lower-case letter of the id");
-    assert!(rt; off(OPENED, 12, b'G'), "no hexadecimal digit of the id");
-    assert!(rt; off(OPENED, 17, 0), "version 0");
-    assert!(rt; off(DONE, 0, 0), "kind 0");
-    assert!(rt; off(DONE, 0, 5), "kind 5");
-    assert!(rt; off([2, 7, 0, 0, 0, 0, 0, 0, 0], 1, 0), "job 0");
-    assert!(rt; off([3, 7, 0, 0, 0, 0, 0, 0, 0], 1, 0), "job 0");
-    assert!(rt; off(REMOVED, 12, 0), "version 0");
-    assert!(rt; off(REMOVED, 8, b'a'), "a lower-case digit of the id");
-    assert!(rt; Change::decode(&[]).is_none(), "no byte");
-    assert!(rt; Change::decode(&OPENED[..60]).is_none(), "one short");
-    assert!(rt; Change::decode(&DONE[..8]).is_none(), "one short");
-    assert!(rt; Change::decode(&DROPPED[..8]).is_none(), "one short");
-    assert!(rt; Change::decode(&REMOVED[..12]).is_none(), "one short");
-    assert!(rt; with_more(&OPENED), "one more");
-    assert!(rt; with_more(&DONE), "one more");
-    assert!(rt; with_more(&DROPPED), "one more");
-    assert!(rt; with_more(&REMOVED), "one more");
+    let opened = OPENED.as_slice();
+    let done = DONE.as_slice();
+    let removed = REMOVED.as_slice();
+    let first = [1, 1, 0, 0, 0, 0, 0, 0, 0];
+    let lines = [
+        // kinds
+        (opened, 0, 0),
+        (opened, 0, 5),
+        (opened, 0, 2),
+        (done, 0, 0),
+        (done, 0, 5),
+        // the job 0
+        (opened, 1, 0),
+        // a lower-case letter of the id, and no hexadecimal digit
+        (opened, 9, b'p'),
+        (opened, 12, b'G'),
+        (removed, 8, b'a'),
+        // the version 0
+        (opened, 17, 0),
+        (removed, 12, 0),
+    ];
+    for (record, at, byte) in lines.iter() {
+        let off = Off {
+            record: *record,
+            at: *at,
+            byte: *byte,
+        };
+        assert!(rt; is_off(off));
+    }
+    for kind in [2, 3] {
+        let mut bytes = first;
+        bytes[0] = kind;
+        assert!(rt; Change::decode(&bytes).is_some());
+        bytes[1] = 0;
+        assert!(rt; Change::decode(&bytes).is_none(), "job 0");
+    }
 }
 
 fn job_of(number: u64) -> Result<JobId, Fail> {
@@ -178,11 +201,12 @@ fn change_of(line: Line) -> Result<Change, Fail> {
     })
 }
 
-// The cause for which the rows refuse the change; where there is none, the change is made.
+// The cause for which the rows refuse the change; where there is none, room is made and then the change.
 fn step(rows: &mut Rows, change: &Change) -> Result<Option<RowFault>, Memory> {
     match rows.check(change) {
         Err(fault) => Ok(Some(fault)),
         Ok(()) => {
+            rows.make_room(change)?;
             rows.apply(change)?;
             Ok(None)
         }
@@ -320,18 +344,37 @@ fn rows_have_limits(rt: HostRuntime) -> Result<(), Fail> {
     Ok(())
 }
 
+// The manifest of files of 7 bytes, each by its path of one letter and the byte that its hash is made of.
+fn manifest_of(alloc: Global, files: &[(u8, u8)]) -> Result<Manifest, Fail> {
+    let mut bytes = Vec::new(alloc);
+    bytes.extend_from_slice(b"CMDL\x01")?;
+    bytes.push(files.len().min(255) as u8)?;
+    bytes.extend_from_slice(&[0, 0, 0])?;
+    for (path, byte) in files.iter() {
+        bytes.extend_from_slice(&[1, *path, 7, 0, 0, 0])?;
+        bytes.extend_from_slice(&[*byte; 32])?;
+    }
+    Manifest::decode(alloc, &bytes).map_err(|_| Fail::new("no manifest"))
+}
+
 #[test]
 fn counts_are_counted(rt: HostRuntime) -> Result<(), Fail> {
     let one = Hash([1; 32]);
     let two = Hash([2; 32]);
+    let manifest = manifest_of(rt.alloc(), &[(b'a', 1), (b'b', 2), (b'c', 1)])?;
     let mut counts = Counts::new(rt.alloc());
-    counts.add(&[one, two, one])?;
-    assert_eq!(rt; counts.of(one), 2);
-    assert_eq!(rt; counts.of(two), 1);
-    counts.add(&[one])?;
-    assert_eq!(rt; counts.of(one), 3);
-    counts.take(&[one, two, one]);
-    assert_eq!(rt; counts.of(one), 1);
-    assert_eq!(rt; counts.of(two), 0);
+    counts.add(&manifest)?;
+    assert!(rt; counts.of(one) == 2);
+    assert!(rt; counts.sealed(one).is_none());
+    counts.seal(one, 7);
+    counts.add(&manifest)?;
+    assert!(rt; counts.of(one) == 4);
+    assert!(rt; counts.sealed(one) == Some(7));
+    counts.take(&manifest);
+    assert!(rt; counts.of(two) == 1);
+    assert!(rt; counts.sealed(one) == Some(7));
+    counts.take(&manifest);
+    assert!(rt; counts.of(one) == 0);
+    assert!(rt; counts.sealed(one).is_none());
     Ok(())
 }

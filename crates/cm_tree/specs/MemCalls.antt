@@ -1,5 +1,8 @@
 -- What contracts see of a folder in memory.
-use Rattle.std.specs.Prelude.{ℕ, List}
+use Rattle.std.specs.Prelude.{◌≡◌, ℕ, List, Result, OnOk, OnErr}
+use Rattle.std.specs.Result.{is_err}
+use Rattle.cm_base.specs.InMemory.{raised}
+use Rattle.cm_base.specs.Listed.{is_listed}
 use Rattle.cm_tree.specs.declared.mem_folder.MemFolder.{MemFolder}
 use Rattle.cm_tree.specs.Folders.{Shown}
 use Rattle.cm_tree.specs.MemFolders.{kept_shown}
@@ -19,3 +22,11 @@ calls_of folder = folder.number
 -- how many of them failed
 abbrev pub faults_of : MemFolder → ℕ
 faults_of folder = folder.faults
+
+-- a call is counted, and fails exactly where its number is listed; a failure is counted, and nothing else is
+pub record FailsExactly {T E : Type 0} (old new : MemFolder) (result : Result T E) : Type 0 where
+  pub calls : calls_of new ≡ raised (calls_of old)
+  pub fail : fails_at new ≡ fails_at old
+  pub listed : is_err result ≡ is_listed (fails_at old) (calls_of old)
+  pub ok : OnOk result (faults_of new ≡ faults_of old)
+  pub err : OnErr result (faults_of new ≡ raised (faults_of old))

@@ -64,7 +64,7 @@ impl MemFolder {
 impl Folder for MemFolder {
     ghost use Rattle.cm_base.specs.Causes.{HasCause};
     ghost use Rattle.cm_tree.specs.Folders.{raw_path, Stays, Turns, GivesPart, is_end};
-    ghost use Rattle.cm_tree.specs.MemCalls.{shown_by, fails_at, calls_of, faults_of};
+    ghost use Rattle.cm_tree.specs.MemCalls.{shown_by, faults_of, FailsExactly};
 
     ghost shows = { shown_by };
 
@@ -74,9 +74,7 @@ impl Folder for MemFolder {
         ensures path { IfOk result (λ path. path ≡ raw_path (shown_by self.old) n) }
         ensures same { Stays (shown_by self.old) (shown_by self.new) }
         ensures cause { HasCause (faults_of self.old) (faults_of self.new) result }
-        ensures listed { is_err result ≡ is_listed (fails_at self.old) (calls_of self.old) }
-        ensures fail { fails_at self.new ≡ fails_at self.old }
-        ensures calls { calls_of self.new ≡ min (calls_of self.old + 1) (2 ^ 64 - 1) }
+        ensures exact { FailsExactly self.old self.new result }
     {
         if self.is_failing() {
             return Err(FolderFault);
@@ -90,9 +88,7 @@ impl Folder for MemFolder {
         ensures none { IfOk result (λ count. length (shown_by self.old).paths ≤ n → count ≡ 0) }
         ensures after { Turns n (is_end result (length buf.new)) (shown_by self.old) (shown_by self.new) }
         ensures cause { HasCause (faults_of self.old) (faults_of self.new) result }
-        ensures listed { is_err result ≡ is_listed (fails_at self.old) (calls_of self.old) }
-        ensures fail { fails_at self.new ≡ fails_at self.old }
-        ensures calls { calls_of self.new ≡ min (calls_of self.old + 1) (2 ^ 64 - 1) }
+        ensures exact { FailsExactly self.old self.new result }
     {
         if self.is_failing() {
             return Err(FolderFault);

@@ -1,7 +1,8 @@
 //! The site's disk below a base folder that this process may not have.
 ghost use Rattle.std.specs.Prelude.{◌≡◌, ◌≤◌, ⊤, None};
 ghost use Rattle.cm_base.specs.Causes.{Rose};
-ghost use Rattle.cm_disk.specs.Unknown.{Unknown, unknown, untold};
+ghost use Rattle.cm_disk.specs.Unknown.{Unknown};
+ghost use Rattle.cm_disk.specs.UnknownLaws.{unknown, untold};
 
 use crate::base::Base;
 use cm_base::Place;
@@ -46,6 +47,8 @@ impl<R: Files<File = File> + AllocGlobal + Clone + Drop> Disk for SiteDisk<R> {
     ghost only_now = { λ disk files left place. tt };
 
     ghost as_it_reads = { λ disk files is place. tt };
+
+    ghost some_image = { λ disk. ((λ place. None), (λ place. tt)) };
 
     ghost short = { λ disk files place is. untold files is };
 

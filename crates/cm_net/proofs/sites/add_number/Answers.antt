@@ -6,14 +6,14 @@ use Rattle.cm_net.specs.Sites.{numbers_there}
 use Rattle.cm_net.proofs.Named.{number_added}
 use Rattle.cm_net.proofs.sites.add_number.Goals as goal
 
-pub returns-in-Some : goal.returns-in-Some
-returns-in-Some c = λ site.
+pub returns-in-Some-clause-added : goal.returns-in-Some-clause-added
+returns-in-Some-clause-added c = λ site.
     number_added (get (slice_cmp nat_cmp) c.args.numbers.now site) _ c.push.new.self c.args.name.now site c.in-Some.list.now.items c.args.group
     (((c.get_mut.follows.holds c.push.new.self).3 (search rules)).0 site) c.in_ok-push.ensures.items
     (λ same. ap numbers_there (ap (get (slice_cmp nat_cmp) c.args.numbers.now) (sym same) ∙ sym c.in-Some.ensures.value))
 
-pub returns : goal.returns
-returns c = λ site.
+pub returns-clause-added : goal.returns-clause-added
+returns-clause-added c = λ site.
     number_added (get (slice_cmp nat_cmp) c.args.numbers.now site) _ c.in_ok-from_slice.field-0 c.args.name.now site [] c.args.group
     (rw c.get_mut.follows.holds-at-none at (c.in_ok-insert.ensures.updates.0 site)) c.in_ok-from_slice.ensures.items
     (λ same. ap numbers_there (ap (get (slice_cmp nat_cmp) c.args.numbers.now) (sym same) ∙ sym c.in_default.ensures.value))

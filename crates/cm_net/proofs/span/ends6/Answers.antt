@@ -10,5 +10,5 @@ overflow_add-result c =
     let fits = net_fits c.in-Prefix6.net 128 (128 - c.in-Prefix6.bits) (omega arith) (omega arith) sound.1 in
     omega (arith, fits, rw c.from.ensures at c.ones.ensures)
 
-pub returns-in-Prefix6 : goal.returns-in-Prefix6
-returns-in-Prefix6 c = λ address small. prefix_is _ c.in-Prefix6.net c.in-Prefix6.bits _ address c.in-Prefix6.is c.requires (rw c.from.ensures at c.ones.ensures)
+pub returns-in-Prefix6-clause-ends : goal.returns-in-Prefix6-clause-ends
+returns-in-Prefix6-clause-ends c = λ address small. prefix_is _ c.in-Prefix6.net c.in-Prefix6.bits _ address c.in-Prefix6.is c.requires (rw c.from.ensures at c.ones.ensures)

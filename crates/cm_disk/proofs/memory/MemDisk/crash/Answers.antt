@@ -40,6 +40,11 @@ loop-place-preserved c = record {
       c.loop-place.invariant.kept c.in_ok-keep.ensures.kept q
       ∙ ap (λ (n : ℕ). rest_of c.args.pick (lookup (is_at (slice_cmp nat_cmp q)) (take n c.args.self.now.slots.entries))) one_more;
   listed = λ number. c.in_ok-keep.ensures.listed number ∙ c.loop-place.invariant.listed number;
+  fresh = (
+    c.in_ok-keep.ensures.counts.0 ∙ c.loop-place.invariant.fresh.0,
+    c.in_ok-keep.ensures.counts.1 ∙ c.loop-place.invariant.fresh.1,
+    c.in_ok-keep.ensures.counts.2 ∙ c.loop-place.invariant.fresh.2,
+  );
 }
 
 pub returns-clause-picked : goal.returns-clause-picked

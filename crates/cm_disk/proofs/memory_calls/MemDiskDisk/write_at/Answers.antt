@@ -2,7 +2,7 @@ use Rattle.std.proofs.Common.{◌⊎◌, List, ℕ, ◌+◌, ◌<◌, ◌≤◌,
 use Rattle.cm_disk.specs.declared.calls.Work.TheVariants.{Write}
 use Rattle.cm_disk.specs.Disk.{written, Touches}
 use Rattle.cm_disk.specs.Stands.{files_after, left_after}
-use Rattle.cm_disk.proofs.Clauses.{time_of, touches_of, there_of_call, does_of, does_nothing}
+use Rattle.cm_disk.proofs.Clauses.{time_of, touches_of, there_of_call, does_of, does_nothing, recorded_write}
 use Rattle.cm_disk.proofs.Steps.{touches_write, there_write}
 use Rattle.cm_disk.proofs.memory_calls.MemDiskDisk.write_at.Goals as goal
 
@@ -26,3 +26,6 @@ returns-clause-time c = time_of c.args.self.now.calls.items c.change.new.self.ca
 pub returns-clause-there : goal.returns-clause-there
 returns-clause-there c =
     there_of_call c.args.self.now.calls.items c.change.new.self.calls.items c.args.place.now (Write c.args.offset c.in-Ok.bytes) (there_write c.args.self.now.calls.items c.args.place.now c.args.offset c.in-Ok.bytes) c.change.result c.change.ensures.ok c.change.ensures.err
+
+pub returns-clause-recorded : goal.returns-clause-recorded
+returns-clause-recorded c = recorded_write c.args.self.now c.change.new.self c.args.place.now c.args.offset c.in-Ok.bytes c.args.bytes.now c.in-Ok.ensures c.change.result c.change.ensures.recorded

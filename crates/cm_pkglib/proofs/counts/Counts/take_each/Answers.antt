@@ -1,8 +1,8 @@
-use Rattle.std.proofs.Common.{arith, get_or, []}
+use Rattle.std.proofs.Common.{arith}
 use Rattle.cm_pkglib.proofs.Times.{times_here}
 use Rattle.cm_pkglib.proofs.counts.Counts.take_each.Goals as goal
 
 pub lower-requires : goal.lower-requires
 lower-requires c =
-    let hash = get_or c.args.hashes.now c.loop-hash.hash-index (record { 0 = [] }) in
-    omega (arith, c.loop-hash.invariant hash, c.requires hash, times_here c.args.hashes.now c.loop-hash.hash-index (record { 0 = [] }) c.loop-hash-test.true)
+    let entry = c.entry-item.result in
+    omega (arith, c.loop-entry.invariant.counts entry.hash, c.requires entry.hash, times_here c.args.entries.now c.loop-entry.entry-index entry c.loop-entry-test.true c.entry-item.is)

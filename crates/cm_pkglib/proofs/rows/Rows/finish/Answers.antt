@@ -10,5 +10,5 @@ invariant_of-self c =
     rw (c.put_row.ensures.rows, c.take_job-row.ensures.rest) (record {
       valid = done_valid _ c.self.invariant.valid c.args.job c.take_job-row.result c.take_job-row.ensures.row;
       sum = c.self.invariant.sum ∙ sym (done_sum _ c.self.invariant.valid c.args.job c.take_job-row.result c.take_job-row.ensures.row);
-      room = omega arith;
+      has_room = record { jobs = omega arith; lasts = omega arith; versions = omega arith };
     })

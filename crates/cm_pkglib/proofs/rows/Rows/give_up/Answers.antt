@@ -13,5 +13,5 @@ invariant_of-self c =
     rw (c.take_job-row.ensures.rest) (record {
       valid = dropped_valid _ c.self.invariant.valid c.args.job (ap is_some c.take_job-row.ensures.row);
       sum = omega (arith, dropped_sum _ c.self.invariant.valid c.args.job c.take_job-row.result c.take_job-row.ensures.row);
-      room = omega arith;
+      has_room = record { jobs = omega arith; lasts = omega arith; versions = omega arith };
     })

@@ -17,5 +17,5 @@ invariant_of-self c =
     rw (c.take_row-row.ensures.rest) (record {
       valid = removed_valid _ c.self.invariant.valid c.args.id c.args.version there;
       sum = omega (arith, removed_sum _ c.self.invariant.valid c.args.id c.args.version c.take_row-row.result c.take_row-row.ensures.row there);
-      room = omega arith;
+      has_room = record { jobs = omega arith; lasts = omega arith; versions = omega arith };
     })

@@ -1,5 +1,0 @@
-use Rattle.std.proofs.Common.{arith}
-use Rattle.cm_filelib.proofs.places.tell_bytes.Goals as goal
-
-pub returns : goal.returns
-returns c i = omega (arith, c.type_inv.text i)

@@ -1,0 +1,5 @@
+pub mod Lists
+pub mod Rule
+pub mod Seated
+pub mod Turns
+pub mod Views
