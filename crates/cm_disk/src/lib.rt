@@ -3,6 +3,7 @@
 
 mod calls;
 mod crash;
+mod crash_test;
 mod disk;
 mod hashing;
 mod host;
@@ -16,6 +17,7 @@ mod memory_calls;
 mod places;
 mod slots;
 
+pub use crash_test::{CrashFault, at_each_crash};
 pub use disk::{Disk, DiskFault};
 pub use hashing::hash_file;
 pub use host_disk::HostDisk;
