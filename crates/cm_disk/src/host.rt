@@ -15,6 +15,9 @@ use std::rt::Files;
 // No file is longer.
 const LONGEST: u64 = (1 << 40) + 131_072;
 
+// So many files are kept open: a log, a manifest and a file take turns.
+const MOST_OPEN: usize = 8;
+
 // A file that is kept open.
 #[derive(Drop)]
 pub(crate) struct OpenPlace {
@@ -27,8 +30,8 @@ pub(crate) struct OpenPlace {
 pub(crate) struct Host<R: Files<File = File> + AllocGlobal + Clone + Drop> {
     rt: R,
     folder: String,
-    // the file that was used last
-    open: Option<OpenPlace>,
+    // the files that were used last, the latest at the end, each place once
+    open: Vec<OpenPlace>,
     // all places, once they were listed
     places: Option<BTreeSet<Place>>,
     // the folders, by their paths, in which nothing was made or removed since this run synced them
@@ -48,10 +51,11 @@ impl<R: Files<File = File> + AllocGlobal + Clone + Drop> Host<R> {
         let folder = String::from_str(rt.alloc(), trimmed(folder))?;
         let settled = BTreeSet::new(rt.alloc());
         let above = Vec::new(rt.alloc());
+        let open = Vec::new(rt.alloc());
         Ok(Host {
             rt,
             folder,
-            open: None,
+            open,
             places: None,
             settled,
             above,
@@ -67,10 +71,23 @@ impl<R: Files<File = File> + AllocGlobal + Clone + Drop> Host<R> {
         }
     }
 
-    // The file at a place, if one is there. It is kept no longer: put it back after its use.
+    // Takes the file of a place out of those that are kept open.
+    fn take_kept(&mut self, place: &Place) -> Option<OpenPlace> {
+        let at = self.open.iter().position(|open| open.place == *place)?;
+        Some(self.open.remove(at))
+    }
+
+    // Keeps a file open. The one that was not used for longest goes; without memory this one does.
+    fn keep(&mut self, open: OpenPlace) {
+        if self.open.len() >= MOST_OPEN {
+            let _longest = self.open.remove(0);
+        }
+        let _kept = self.open.push(open);
+    }
+
+    // The file at a place, if one is there. It is kept no longer: `keep` it after its use.
     fn take_open(&mut self, place: &Place, takes_writes: bool) -> io::Result<Option<OpenPlace>> {
-        if let Some(open) = self.open.take()
-            && open.place == *place
+        if let Some(open) = self.take_kept(place)
             && (open.takes_writes || !takes_writes)
         {
             return Ok(Some(open));
@@ -106,7 +123,7 @@ impl<R: Files<File = File> + AllocGlobal + Clone + Drop> Host<R> {
         if size > LONGEST {
             return Err(io::ErrorKind::FileTooLarge.into());
         }
-        self.open = Some(open);
+        self.keep(open);
         Ok(Some(size))
     }
 
@@ -126,7 +143,7 @@ impl<R: Files<File = File> + AllocGlobal + Clone + Drop> Host<R> {
             return Ok(0);
         }
         let count = read_from(&open.file, offset, buf)?;
-        self.open = Some(open);
+        self.keep(open);
         Ok(count)
     }
 
@@ -136,7 +153,7 @@ impl<R: Files<File = File> + AllocGlobal + Clone + Drop> Host<R> {
             None => self.make(place)?,
         };
         open.file.write_all_at(bytes, offset)?;
-        self.open = Some(open);
+        self.keep(open);
         Ok(())
     }
 
@@ -209,13 +226,13 @@ impl<R: Files<File = File> + AllocGlobal + Clone + Drop> Host<R> {
             return Err(io::ErrorKind::InvalidInput.into());
         }
         open.file.set_len(size)?;
-        self.open = Some(open);
+        self.keep(open);
         Ok(())
     }
 
     pub(crate) fn remove(&mut self, place: &Place) -> io::Result<()> {
         // A file that is kept open would still give what it held.
-        self.open = None;
+        let _closed = self.take_kept(place);
         let path = self.path_of(place)?;
         match fs::remove_file(&self.rt, path.as_str()) {
             Ok(()) => {}
@@ -238,7 +255,7 @@ impl<R: Files<File = File> + AllocGlobal + Clone + Drop> Host<R> {
             self.is_lost = true;
             open.file.sync_data()?;
             self.is_lost = false;
-            self.open = Some(open);
+            self.keep(open);
         }
         self.sync_folders(path.as_str())
     }

@@ -3,6 +3,7 @@
 
 mod calls;
 mod crash;
+mod crash_test;
 mod disk;
 mod hashing;
 mod host;
@@ -17,6 +18,7 @@ mod places;
 mod slots;
 mod walk;
 
+pub use crash_test::{CrashFault, at_each_crash};
 pub use disk::{Disk, DiskFault};
 pub use hashing::hash_file;
 pub use host_disk::HostDisk;

@@ -5,12 +5,30 @@ use std::fs;
 use std::process::Abort;
 use std::test::Fail;
 
+// More files than are kept open take turns.
+fn try_turns<D: Disk>(rt: &impl Abort, disk: &mut D) -> Result<(), Fail> {
+    for turn in 0..2 {
+        for n in 0..10u8 {
+            put(disk, &place_of(&[b'0' + n])?, turn, &[n])?;
+        }
+    }
+    for n in 0..10u8 {
+        let place = place_of(&[b'0' + n])?;
+        assert!(rt; reads(disk, &place, Some(&[n, n])));
+        disk.sync(&place)?;
+        disk.remove(&place)?;
+        assert!(rt; reads(disk, &place, None));
+    }
+    Ok(())
+}
+
 #[test]
 fn each_call(rt: HostRuntime) -> Result<(), Fail> {
     let base = "cm_disk_test";
     let _old = fs::remove_dir_all(&rt, base);
     let mut disk = HostDisk::new(rt.clone()?, "cm_disk_test/base/site")?;
     try_each_call(&rt, &mut disk)?;
+    try_turns(&rt, &mut disk)?;
     // What it wrote stands in the real files.
     let bytes = fs::read(&rt, "cm_disk_test/base/site/FileLib/a")?;
     assert!(rt; bytes.as_slice() == b"again".as_slice());

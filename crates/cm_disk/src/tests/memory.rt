@@ -1,6 +1,6 @@
-//! A disk in memory: its failures, and what a stop leaves of it.
+//! A disk in memory: its failures, and what a crash leaves of it.
 use crate::tests::{Step, place_of, put, reads, take, trim, try_each_call};
-use crate::{Disk, MemDisk};
+use crate::{CrashFault, Disk, DiskFault, MemDisk, at_each_crash};
 use cm_base::Place;
 use std::alloc::Global;
 use std::process::Abort;
@@ -36,51 +36,28 @@ fn listed(alloc: Global, at: u64) -> Result<MemDisk, Fail> {
 }
 
 #[test]
-fn listed_failures(rt: HostRuntime) -> Result<(), Fail> {
+fn failing_calls(rt: HostRuntime) -> Result<(), Fail> {
     let place = place_of(b"p")?;
     for at in 0..8 {
-        let mut disk = listed(rt.alloc(), at)?;
-        let failed = failures(&mut disk, &place);
-        for (i, failed) in (0..8).zip(failed) {
+        let mut once = listed(rt.alloc(), at)?;
+        let mut stops = MemDisk::stopping(rt.alloc(), at)?;
+        let both = failures(&mut once, &place)
+            .into_iter()
+            .zip(failures(&mut stops, &place));
+        for (i, (failed, stopped)) in (0..8).zip(both) {
             assert!(rt;
-                failed == (i == at),
+                failed == (i == at) && stopped == (i >= at),
                 "call {i} of a disk that fails at {at}"
             );
         }
-        assert_eq!(rt; disk.faults(), 1);
+        assert_eq!(rt; once.faults(), 1);
+        assert_eq!(rt; stops.faults(), 8 - at);
+        assert_eq!(rt; stops.short(), 0);
     }
     Ok(())
 }
 
-#[test]
-fn stopping(rt: HostRuntime) -> Result<(), Fail> {
-    let place = place_of(b"p")?;
-    for at in 0..8 {
-        let mut disk = MemDisk::stopping(rt.alloc(), at)?;
-        let failed = failures(&mut disk, &place);
-        for (i, failed) in (0..8).zip(failed) {
-            assert!(rt;
-                failed == (i >= at),
-                "call {i} of a disk that stops at {at}"
-            );
-        }
-        assert_eq!(rt; disk.faults(), 8 - at);
-        assert_eq!(rt; disk.short(), 0);
-    }
-    Ok(())
-}
-
-#[test]
-fn a_failed_cut_cuts_nothing(rt: HostRuntime) -> Result<(), Fail> {
-    let place = place_of(b"p")?;
-    let mut disk = listed(rt.alloc(), 3)?;
-    put(&mut disk, &place, 0, b"abcd")?;
-    assert!(rt; trim(&mut disk, &place, 2).is_err());
-    assert!(rt; reads(&mut disk, &place, Some(b"abcd")));
-    Ok(())
-}
-
-// The three images of a place.
+// Whether the three images of a place are these.
 fn leaves(disk: &MemDisk, place: &Place, picks: [Option<&[u8]>; 3]) -> Result<bool, Fail> {
     let [durable, read, marked] = picks;
     Ok(
@@ -90,63 +67,90 @@ fn leaves(disk: &MemDisk, place: &Place, picks: [Option<&[u8]>; 3]) -> Result<bo
     )
 }
 
-fn try_stops(rt: &impl Abort, disk: &mut MemDisk, place: &Place) -> Result<(), Fail> {
-    for (step, durable, read, marked) in [
-        (Step::Sync, None, None, None),
+// Each step, whether it is done, and then the durable file, what a read gives, and that with 1 at each touched byte.
+fn try_images(rt: &impl Abort, disk: &mut MemDisk, place: &Place) -> Result<(), Fail> {
+    let abcd = Some(b"abcd".as_slice());
+    let later = Some(b"aXYde".as_slice());
+    let last = Some(b"aXz".as_slice());
+    for (step, done, durable, read, marked) in [
+        (Step::Sync, true, None, None, None),
         (
             Step::Put(0, b"abcd"),
+            true,
             None,
-            Some(b"abcd".as_slice()),
+            abcd,
             Some([1, 1, 1, 1].as_slice()),
         ),
+        (Step::Sync, true, abcd, abcd, abcd),
+        // A failed write touches what it would have written.
         (
-            Step::Sync,
-            Some(b"abcd".as_slice()),
-            Some(b"abcd"),
-            Some(b"abcd"),
+            Step::Put(1, b"XY"),
+            false,
+            abcd,
+            abcd,
+            Some(b"a\x01\x01d".as_slice()),
         ),
         (
             Step::Put(1, b"XY"),
-            Some(b"abcd"),
+            true,
+            abcd,
             Some(b"aXYd"),
             Some(b"a\x01\x01d"),
         ),
         (
             Step::Put(4, b"e"),
-            Some(b"abcd"),
-            Some(b"aXYde"),
+            true,
+            abcd,
+            later,
             Some(b"a\x01\x01d\x01"),
         ),
-        (Step::Sync, Some(b"aXYde"), Some(b"aXYde"), Some(b"aXYde")),
-        (Step::Trim(2), Some(b"aXYde"), Some(b"aX"), Some(b"aX")),
-        (
-            Step::Put(2, b"z"),
-            Some(b"aXYde"),
-            Some(b"aXz"),
-            Some(b"aX\x01"),
-        ),
-        (Step::Sync, Some(b"aXz"), Some(b"aXz"), Some(b"aXz")),
-        (Step::Remove, Some(b"aXz"), None, None),
-        (Step::Sync, None, None, None),
+        (Step::Sync, false, abcd, later, Some(b"a\x01\x01d\x01")),
+        (Step::Sync, true, later, later, later),
+        (Step::Trim(2), false, later, later, Some(b"aX\x01\x01\x01")),
+        (Step::Trim(2), true, later, Some(b"aX"), Some(b"aX")),
+        (Step::Put(2, b"z"), true, later, last, Some(b"aX\x01")),
+        (Step::Sync, true, last, last, last),
+        // An empty write touches nothing.
+        (Step::Put(1, b""), true, last, last, last),
+        (Step::Remove, false, last, last, Some(b"\x01\x01\x01")),
+        (Step::Remove, true, last, None, None),
+        (Step::Sync, true, None, None, None),
     ] {
-        take(disk, place, step)?;
+        assert!(rt; take(disk, place, step).is_ok() == done);
         assert!(rt; leaves(disk, place, [durable, read, marked])?);
     }
     Ok(())
 }
 
 #[test]
-fn what_a_stop_leaves(rt: HostRuntime) -> Result<(), Fail> {
-    let mut disk = MemDisk::new(rt.alloc(), Vec::new(rt.alloc()))?;
-    try_stops(&rt, &mut disk, &place_of(b"p")?)
+fn what_a_crash_leaves(rt: HostRuntime) -> Result<(), Fail> {
+    let fail = vec![in rt.alloc(); 5, 10, 13, 21]?;
+    let mut disk = MemDisk::new(rt.alloc(), fail)?;
+    try_images(&rt, &mut disk, &place_of(b"p")?)?;
+    assert_eq!(rt; disk.faults(), 4);
+    Ok(())
+}
+
+fn put_and_sync(disk: &mut MemDisk, place: &Place) -> Result<(), DiskFault> {
+    put(disk, place, 0, b"ab")?;
+    disk.sync(place)
 }
 
 #[test]
-fn a_failed_sync_makes_nothing_durable(rt: HostRuntime) -> Result<(), Fail> {
+fn each_crash(rt: HostRuntime) -> Result<(), Fail> {
     let place = place_of(b"p")?;
-    let mut disk = MemDisk::stopping(rt.alloc(), 2)?;
-    put(&mut disk, &place, 0, b"ab")?;
-    assert!(rt; disk.sync(&place).is_err());
-    assert!(rt; leaves(&disk, &place, [None, Some(b"ab"), Some(b"\x01\x01")])?);
+    let kept = at_each_crash(
+        rt.alloc(),
+        |disk| put_and_sync(disk, &place),
+        |given, image| given.is_err() || reads(image, &place, Some(b"ab")),
+    );
+    assert!(rt; kept == Ok(()));
+    // What is not synced is lost.
+    let lost = at_each_crash(
+        rt.alloc(),
+        |disk| put(disk, &place, 0, b"ab"),
+        |given, image| given.is_err() || reads(image, &place, Some(b"ab")),
+    );
+    assert!(rt; lost == Err(CrashFault::Refused { at: 2, pick: 0 }));
     Ok(())
 }
