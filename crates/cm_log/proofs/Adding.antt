@@ -10,6 +10,7 @@ use Rattle.cm_log.specs.declared.state.Log.{Log}
 use Rattle.cm_log.specs.Shelves.{ready_place, log_place}
 use Rattle.cm_log.specs.Logs.{Entry, Reading, Shelved, Live, closed, shelved, added}
 use Rattle.cm_log.specs.Fronts.{IsShut, one_more, IsEither, IsGated}
+use Rattle.cm_log.specs.Outcomes.{StandsAfter}
 use Rattle.cm_log.specs.Settled.{Rests, IsSettled, IsUnsettled, Stands, IsBeforeOrAfter}
 use Rattle.cm_log.proofs.Apart.{logs_apart, ready_apart}
 use Rattle.cm_log.proofs.Readings.{upto}
@@ -120,8 +121,12 @@ beside_now shelf files place entries end live now same = record {
 pub stands_at : (files now : Files) (may_leave : List ℕ → File → Type 0) (log : Log) (old : Shelved) (body : List ℕ) → files ≡ now → IsUnsettled files may_leave log old body → Stands now may_leave log
 stands_at files now may_leave log old body same u = subst (λ (f : Files). Stands f may_leave log) same (inr (old, body, u))
 
-pub settled_at : (files now : Files) (may_leave : List ℕ → File → Type 0) (log : Log) → files ≡ now → IsSettled files may_leave log → IsSettled now may_leave log
-settled_at files now may_leave log same s = subst (λ (f : Files). IsSettled f may_leave log) same s
+-- a log that an Ok left settled
+pub after_ok : {T E : Type 0} {x : T} {files : Files} {may_leave : List ℕ → File → Type 0} {log : Log} → IsSettled files may_leave log → StandsAfter {T = T} {E = E} (Ok x) files may_leave log
+after_ok s = record { settled = s; stands = inl s }
+
+pub after_ok_at : {T E : Type 0} {x : T} (files now : Files) (may_leave : List ℕ → File → Type 0) (log : Log) → files ≡ now → IsSettled files may_leave log → StandsAfter {T = T} {E = E} (Ok x) now may_leave log
+after_ok_at files now may_leave log same s = after_ok (subst (λ (f : Files). IsSettled f may_leave log) same s)
 
 pub settled_by : (files : Files) (may_leave : List ℕ → File → Type 0) (log : Log) → Stands files may_leave log → log.end_with ≡ log.end → IsSettled files may_leave log
 settled_by files may_leave log (inl s) same = s
@@ -181,8 +186,3 @@ one_by b n is yes_ = grind (arith, nat_tests)
 
 pub other_by : (b : Bool) (n : ℕ) → b ≡ (n == 1) → b ≡ false → n ≢ 1
 other_by b n is not_ = grind (arith, nat_tests)
-
--- what holds, holds after a fault too
-pub on_err : {T E : Type 0} (r : Result T E) (P : Type 0) → P → OnErr r P
-on_err (Ok x) P p = tt
-on_err (Err e) P p = p

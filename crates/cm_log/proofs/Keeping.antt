@@ -3,7 +3,7 @@ use Rattle.std.proofs.Common.{◌≡◌, ℕ, List, refl, ◌∙◌}
 use Rattle.std.specs.Prelude.{◌≢◌, Option, Result, Ok, Err}
 use Rattle.cm_disk.specs.Disk.{File, Files, Does, put}
 use Rattle.cm_disk.proofs.Puts.{put_there}
-use Rattle.cm_log.specs.Settled.{KeepsReads}
+use Rattle.cm_log.specs.Frames.{KeepsReads}
 
 pub keeps_same : (P : List ℕ → Type 0) (old new : Option Files) → new ≡ old → KeepsReads P old new
 keeps_same P old new same files told = (files, same ∙ told, λ q p. refl)

@@ -1,8 +1,10 @@
 pub mod Adding
+pub mod Ahead
 pub mod Along
 pub mod Apart
 pub mod Bytes
 pub mod Done
+pub mod Frames
 pub mod Heads
 pub mod Images
 pub mod Keeping

@@ -1,38 +1,32 @@
 -- Three files make a new log, whatever the disk.
-use Rattle.std.proofs.Common.{◌≡◌, ◌⊎◌, inl, inr, ℕ, List, [], ◌∷◌, length, take, Option, None, Some, is_some, option_map, false, true, refl, sym, ◌∙◌, ap, subst}
+use Rattle.std.proofs.Common.{◌≡◌, ◌⊎◌, inl, inr, ⊎_elim, ℕ, List, [], length, take, Bool, Option, None, Some, is_some, option_map, false, true, refl, sym, ◌∙◌, ap, subst}
 use Rattle.std.specs.Prelude.{◌≢◌}
 use Rattle.std.proofs.lemmas.Bool.{false≢true}
-use Rattle.cm_disk.specs.Disk.{File, Files, bytes_of, Only, LeavesOnly}
+use Rattle.cm_disk.specs.Disk.{File, Files, bytes_of, put, Only, IsImage, LeavesNoMore, LeavesOnly}
 use Rattle.cm_disk.proofs.Moments.{joins, weaker}
+use Rattle.cm_disk.proofs.Puts.{put_here, put_there}
 use Rattle.cm_log.specs.declared.shelf.Shelf.{Shelf}
 use Rattle.cm_log.specs.declared.shelf.Side.{Side}
 use Rattle.cm_log.specs.declared.shelf.Side.TheVariants.{First, Second}
 use Rattle.cm_log.specs.declared.head.Head.{Head}
 use Rattle.cm_log.specs.declared.head.Choice.{Choice}
-use Rattle.cm_log.specs.Shelves.{ready_place, log_place, IsElsewhere}
+use Rattle.cm_log.specs.Shelves.{ready_place, log_place, IsElsewhere, IsNoLog}
 use Rattle.cm_log.specs.Heads.{head_of, choice}
 use Rattle.cm_log.specs.Logs.{NoLog, Live, reading_at, head_at, told_by, shelved_by, shelved, IsLook, fresh}
-use Rattle.cm_log.specs.Settled.{IsMaking}
+use Rattle.cm_log.specs.Settled.{live_log, idle_log, HasLogs, Makes, Rests, IsMaking}
 use Rattle.cm_log.proofs.Apart.{ready_apart}
-use Rattle.cm_disk.proofs.Quiet.{Quiet}
-
-abbrev pub live_bytes : List ℕ
-live_bytes = 1 ∷ 1 ∷ 1 ∷ 0 ∷ 0 ∷ 0 ∷ 0 ∷ 0 ∷ 0 ∷ 0 ∷ 0 ∷ []
-
-abbrev pub idle_bytes : List ℕ
-idle_bytes = 0 ∷ 1 ∷ 0 ∷ 0 ∷ 0 ∷ 0 ∷ 0 ∷ 0 ∷ 0 ∷ 0 ∷ 0 ∷ []
 
 pub no_ready : (shelf : Shelf) (files : Files) → files (ready_place shelf) ≡ None → shelved shelf files ≡ NoLog
 no_ready shelf files none = ap (λ (f : File). shelved_by f shelf files) none
 
-pub is_fresh : (shelf : Shelf) (files : Files) (ready : List ℕ) → files (ready_place shelf) ≡ Some ready → files (log_place shelf First) ≡ Some live_bytes → files (log_place shelf Second) ≡ Some idle_bytes → shelved shelf files ≡ fresh shelf
+pub is_fresh : (shelf : Shelf) (files : Files) (ready : List ℕ) → files (ready_place shelf) ≡ Some ready → files (log_place shelf First) ≡ Some live_log → files (log_place shelf Second) ≡ Some idle_log → shelved shelf files ≡ fresh shelf
 is_fresh shelf files ready there first second =
     ap (λ (f : File). shelved_by f shelf files) there
     ∙ ap (λ (f : File). told_by (choice (head_of (take 10 (bytes_of f))) (head_at files (log_place shelf Second))) shelf files) first
-    ∙ ap (λ (f : File). told_by (choice (head_of (take 10 live_bytes)) (head_of (take 10 (bytes_of f)))) shelf files) second
+    ∙ ap (λ (f : File). told_by (choice (head_of (take 10 live_log)) (head_of (take 10 (bytes_of f)))) shelf files) second
     ∙ ap (λ (f : File). Live (log_place shelf First) (reading_at (bytes_of f) 10)) first
 
-pub either_fresh : (shelf : Shelf) (files : Files) (ready : File) → files (ready_place shelf) ≡ ready → files (log_place shelf First) ≡ Some live_bytes → files (log_place shelf Second) ≡ Some idle_bytes → (shelved shelf files ≡ NoLog) ⊎ (shelved shelf files ≡ fresh shelf)
+pub either_fresh : (shelf : Shelf) (files : Files) (ready : File) → files (ready_place shelf) ≡ ready → files (log_place shelf First) ≡ Some live_log → files (log_place shelf Second) ≡ Some idle_log → (shelved shelf files ≡ NoLog) ⊎ (shelved shelf files ≡ fresh shelf)
 either_fresh shelf files None there first second = inl (no_ready shelf files there)
 either_fresh shelf files (Some ready) there first second = inr (is_fresh shelf files ready there first second)
 
@@ -45,45 +39,66 @@ pub a_file : (file : File) (size : Option ℕ) → is_some size ≡ true → siz
 a_file None size some is = absurd (false≢true (sym (ap (λ (o : Option ℕ). is_some o) is) ∙ some))
 a_file (Some bytes) size some is = refl
 
-module _ {D : Type 0} (may_leave : D → List ℕ → File → Type 0) (moment : D → ℕ) (left_since : D → ℕ → Files → Type 0) (shelf : Shelf) (old : D) where
-  -- no image has `ready`
-  pub record Blank (mid : D) : Type 0 where
-    pub so_far : LeavesOnly moment left_since old mid (IsMaking shelf (may_leave old))
-    pub others : (q : List ℕ) (file : File) → IsElsewhere shelf q → may_leave mid q file → may_leave old q file
-    pub ready : Only None (may_leave mid (ready_place shelf))
+-- a place where reads give nothing, durably
+pub none_sure : (file : File) (there : Bool) (may_leave : File → Type 0) → there ≡ false → there ≡ is_some file → Only file may_leave → (file ≡ None) × Only None may_leave
+none_sure None there may_leave absent is only = (refl, only)
+none_sure (Some bytes) there may_leave absent is only = absurd (false≢true (sym absent ∙ is))
 
-  pub making_quiet : (mid : D) → Quiet may_leave moment left_since old mid → LeavesOnly moment left_since old mid (IsMaking shelf (may_leave old))
-  making_quiet mid quiet = weaker moment left_since old mid _ _ quiet.run (λ files image. record { others = λ q elsewhere. image q; log = inl image })
+module _ {D : Type 0} (may_leave : D → List ℕ → File → Type 0) (moment : D → ℕ) (left_since : D → ℕ → Files → Type 0) (shelf : Shelf) (files : Files) (old : D) where
+  -- while nothing is written
+  pub making_quiet : (mid : D) → LeavesOnly moment left_since old mid (IsImage (may_leave old)) → LeavesOnly moment left_since old mid (IsMaking shelf files (may_leave old))
+  making_quiet mid run = weaker moment left_since old mid (IsImage (may_leave old)) (IsMaking shelf files (may_leave old)) run (λ left image. record { others = λ q elsewhere. image q; log = inl image })
 
-  pub blank : (mid : D) → Quiet may_leave moment left_since old mid → Only None (may_leave mid (ready_place shelf)) → Blank mid
-  blank mid quiet none = record {
-    so_far = making_quiet mid quiet;
-    others = λ q file elsewhere left. quiet.stop q file left;
-    ready = none;
-  }
-
-  pub blank_next : (mid new : D) (side : Side) (place : List ℕ) → place ≡ log_place shelf side → Blank mid
-      → LeavesOnly moment left_since mid new (λ (left : Files). (q : List ℕ) → q ≢ place → may_leave mid q (left q))
-      → ((q : List ℕ) (file : File) → q ≢ place → may_leave new q file → may_leave mid q file) → Blank new
-  blank_next mid new side place is b run others = record {
-    so_far = joins moment left_since old mid new _ _ b.so_far run (λ files left. record {
-      others = λ q elsewhere. b.others q (files q) elsewhere (left q (λ e. elsewhere.logs side (e ∙ is)));
-      log = inr (inl (no_ready shelf files (b.ready (files (ready_place shelf)) (left (ready_place shelf) (λ e. ready_apart shelf side (e ∙ is))))));
-    });
-    others = λ q file elsewhere left. b.others q file elsewhere (others q file (λ e. elsewhere.logs side (e ∙ is)) left);
-    ready = λ file left. b.ready file (others (ready_place shelf) file (λ e. ready_apart shelf side (e ∙ is)) left);
-  }
-
-  pub fresh_next : (mid new : D) (place : List ℕ) → place ≡ ready_place shelf → Blank mid
-      → Only (Some live_bytes) (may_leave mid (log_place shelf First)) → Only (Some idle_bytes) (may_leave mid (log_place shelf Second))
-      → LeavesOnly moment left_since mid new (λ (left : Files). (q : List ℕ) → q ≢ place → may_leave mid q (left q))
-      → LeavesOnly moment left_since old new (IsMaking shelf (may_leave old))
-  fresh_next mid new place is b first second run = joins moment left_since old mid new _ _ b.so_far run (λ files left. record {
-    others = λ q elsewhere. b.others q (files q) elsewhere (left q (λ e. elsewhere.ready (e ∙ is)));
-    log = inr (either_fresh shelf files (files (ready_place shelf)) refl
-        (first (files (log_place shelf First)) (left (log_place shelf First) (λ e. ready_apart shelf First (sym (e ∙ is)))))
-        (second (files (log_place shelf Second)) (left (log_place shelf Second) (λ e. ready_apart shelf Second (sym (e ∙ is))))));
+  -- the making begins after calls that write nothing
+  pub making_then : (mid new : D) → LeavesOnly moment left_since old mid (IsImage (may_leave old)) → LeavesNoMore (may_leave old) (may_leave mid) → LeavesOnly moment left_since mid new (IsMaking shelf files (may_leave mid)) → LeavesOnly moment left_since old new (IsMaking shelf files (may_leave old))
+  making_then mid new run stop making = joins moment left_since old mid new (IsMaking shelf files (may_leave old)) (IsMaking shelf files (may_leave mid)) (making_quiet mid run) making (λ left m. record {
+    others = λ q elsewhere. stop q (left q) (m.others q elsewhere);
+    log = ⊎_elim (λ image. inl (λ q. stop q (left q) (image q))) (λ log. inr log) m.log;
   })
+
+  module _ (none : files (ready_place shelf) ≡ None) (sure : Only None (may_leave old (ready_place shelf))) where
+    -- while the logs are written there is no `ready`
+    pub making_logs : (mid : D) → LeavesOnly moment left_since old mid (λ (left : Files). (q : List ℕ) → IsNoLog shelf q → may_leave old q (left q)) → LeavesOnly moment left_since old mid (IsMaking shelf files (may_leave old))
+    making_logs mid run = weaker moment left_since old mid (λ (left : Files). (q : List ℕ) → IsNoLog shelf q → may_leave old q (left q)) (IsMaking shelf files (may_leave old)) run (λ left here. record {
+      others = λ q elsewhere. here q elsewhere.logs;
+      log = inr (no_ready shelf files none, inl (no_ready shelf left (sure (left (ready_place shelf)) (here (ready_place shelf) (ready_apart shelf)))));
+    })
+
+    -- and while `ready` is, both logs are durable
+    pub making_ready : (mid new : D) (now : Files) (place : List ℕ) → place ≡ ready_place shelf → HasLogs shelf files now (may_leave mid)
+        → LeavesOnly moment left_since old mid (λ (left : Files). (q : List ℕ) → IsNoLog shelf q → may_leave old q (left q))
+        → ((q : List ℕ) (file : File) → IsNoLog shelf q → may_leave mid q file → may_leave old q file)
+        → LeavesOnly moment left_since mid new (λ (left : Files). (q : List ℕ) → q ≢ place → may_leave mid q (left q))
+        → LeavesOnly moment left_since old new (IsMaking shelf files (may_leave old))
+    making_ready mid new now place is logs run others next = joins moment left_since old mid new (IsMaking shelf files (may_leave old)) (λ (left : Files). (q : List ℕ) → q ≢ place → may_leave mid q (left q)) (making_logs mid run) next (λ left here.
+        let log : (side : Side) → left (log_place shelf side) ≡ now (log_place shelf side) = λ side. logs.durable side (left (log_place shelf side)) (here (log_place shelf side) (λ e. ready_apart shelf side (sym (e ∙ is)))) in
+        record {
+          others = λ q elsewhere. others q (left q) elsewhere.logs (here q (λ e. elsewhere.ready (e ∙ is)));
+          log = inr (no_ready shelf files none, either_fresh shelf left (left (ready_place shelf)) refl (log First ∙ logs.first) (log Second ∙ logs.second));
+        })
+
+-- `ready` beside two logs makes a new log
+pub makes : (shelf : Shelf) (files now : Files) (may_leave : List ℕ → File → Type 0) (place : List ℕ) → place ≡ ready_place shelf → files (ready_place shelf) ≡ None → HasLogs shelf files now may_leave → Makes shelf files (put now place (Some []))
+makes shelf files now may_leave place is none logs =
+    let all = put now place (Some []) in
+    let ready : all (ready_place shelf) ≡ Some [] = subst (λ (q : List ℕ). all q ≡ Some []) is (put_here now place (Some [])) in
+    let log : (side : Side) → all (log_place shelf side) ≡ now (log_place shelf side) = λ side. put_there now place (Some []) (log_place shelf side) (λ e. ready_apart shelf side (sym (e ∙ is))) in
+    record {
+      none = no_ready shelf files none;
+      made = is_fresh shelf all [] ready (log First ∙ logs.first) (log Second ∙ logs.second);
+      bytes = record { ready = ready; first = log First ∙ logs.first; second = log Second ∙ logs.second };
+      others = λ q elsewhere. put_there now place (Some []) q (λ e. elsewhere.ready (e ∙ is)) ∙ logs.others q elsewhere.logs;
+    }
+
+-- and once it is durable all of it is
+pub rests_made : (shelf : Shelf) (files now : Files) (old new : List ℕ → File → Type 0) (place : List ℕ) → place ≡ ready_place shelf → HasLogs shelf files now old → Only (Some []) (new place)
+    → ((q : List ℕ) (file : File) → q ≢ place → new q file → old q file) → Rests shelf (put now place (Some [])) new
+rests_made shelf files now old new place is logs sure others = record {
+  ready = subst (λ (q : List ℕ). Only (put now place (Some []) q) (new q)) is (subst (λ (f : File). Only f (new place)) (sym (put_here now place (Some []))) sure);
+  logs = λ side left l.
+      let other : log_place shelf side ≢ place = λ e. ready_apart shelf side (sym (e ∙ is)) in
+      logs.durable side left (others (log_place shelf side) left other l) ∙ sym (put_there now place (Some []) (log_place shelf side) other);
+}
 
 -- which log is live, by a size and two heads
 pub look_some : (shelf : Shelf) (files : Files) (ready first second : List ℕ) (size : Option ℕ) (one two : Head) → ready ≡ ready_place shelf → first ≡ log_place shelf First → second ≡ log_place shelf Second

@@ -16,17 +16,11 @@ rests_kept shelf files old new stop r = record {
   logs = λ side left l. r.logs side left (stop (log_place shelf side) left l);
 }
 
--- the three places by the names that a call gave them
-pub rests_at : (shelf : Shelf) (files : Files) (may_leave : List ℕ → File → Type 0) (ready first second : List ℕ) → ready ≡ ready_place shelf → first ≡ log_place shelf First → second ≡ log_place shelf Second
-    → Only (files ready) (may_leave ready) → Only (files first) (may_leave first) → Only (files second) (may_leave second) → Rests shelf files may_leave
-rests_at shelf files may_leave ready first second er ef es r f s = record {
-  ready = subst (λ (q : List ℕ). Only (files q) (may_leave q)) er r;
-  logs = logs;
-}
-  where
-    logs : (side : Side) → Only (files (log_place shelf side)) (may_leave (log_place shelf side))
-    logs First = subst (λ (q : List ℕ). Only (files q) (may_leave q)) ef f
-    logs Second = subst (λ (q : List ℕ). Only (files q) (may_leave q)) es s
+-- the two logs by the names that a call gave them
+pub logs_at : (shelf : Shelf) (files : Files) (may_leave : List ℕ → File → Type 0) (first second : List ℕ) → first ≡ log_place shelf First → second ≡ log_place shelf Second
+    → Only (files first) (may_leave first) → Only (files second) (may_leave second) → (side : Side) → Only (files (log_place shelf side)) (may_leave (log_place shelf side))
+logs_at shelf files may_leave first second is is' one two First = subst (λ (q : List ℕ). Only (files q) (may_leave q)) is one
+logs_at shelf files may_leave first second is is' one two Second = subst (λ (q : List ℕ). Only (files q) (may_leave q)) is' two
 
 -- each image of a shelf at rest is as reads give it
 pub image_shelved : (shelf : Shelf) (files : Files) (may_leave : List ℕ → File → Type 0) → Rests shelf files may_leave → (left : Files) → ((q : List ℕ) → may_leave q (left q)) → shelved shelf left ≡ shelved shelf files

@@ -1,7 +1,9 @@
+pub mod Frames
 pub mod Fronts
 pub mod Heads
 pub mod Laws
 pub mod Logs
+pub mod Outcomes
 pub mod Records
 pub mod Settled
 pub mod Shelves

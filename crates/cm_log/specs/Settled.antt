@@ -1,18 +1,15 @@
 -- A log and its reader on a disk.
-use Rattle.std.specs.Prelude.{◌≡◌, ◌≢◌, ◌⊎◌, ℕ, ◌+◌, ◌≤◌, ◌==◌, Bool, true, List, [], ◌∷◌, length, Option, Some}
-use Rattle.std.specs.Option.{ForSome}
+use Rattle.std.specs.Prelude.{◌≡◌, ◌≢◌, ◌⊎◌, ℕ, ◌+◌, ◌-◌, ◌≤◌, ◌==◌, Bool, true, List, [], ◌∷◌, ◌++◌, length, take, drop, Some}
 use Rattle.cm_disk.specs.Disk.{File, Files, bytes_of, IsImage, Only}
 use Rattle.cm_log.specs.declared.shelf.Shelf.{Shelf}
 use Rattle.cm_log.specs.declared.shelf.Side.{Side}
 use Rattle.cm_log.specs.declared.shelf.Side.TheVariants.{First, Second}
+use Rattle.cm_log.specs.declared.position.Block.{Block}
 use Rattle.cm_log.specs.declared.state.Log.{Log}
 use Rattle.cm_log.specs.declared.position.LogReader.{LogReader}
-use Rattle.cm_log.specs.Shelves.{ready_place, log_place, IsElsewhere}
+use Rattle.cm_log.specs.Shelves.{ready_place, log_place, IsElsewhere, IsNoLog}
 use Rattle.cm_log.specs.Logs.{Entry, Reading, Closed, Shelved, NoLog, Live, ended, following, closed, fresh, rest_at, shelved, added}
-
--- at each place that has P a read gives what it gave before
-abbrev pub KeepsReads : (List ℕ → Type 0) → Option Files → Option Files → Type 0
-KeepsReads P old new = ForSome old (λ files. (now : Files) × (new ≡ Some now) × ((q : List ℕ) → P q → now q ≡ files q))
+use Rattle.cm_log.specs.Records.{HasRecords}
 
 -- a log's shelf, the place of its file, the place of its closed gate, and how many records it has
 abbrev pub shelf_of : Log → Shelf
@@ -24,6 +21,10 @@ place_of log = log.place
 abbrev pub end_of : Log → ℕ
 end_of log = log.end
 
+-- where it is if the record of a failed append is there
+abbrev pub end_with_of : Log → ℕ
+end_with_of log = log.end_with
+
 abbrev pub number_of : Log → ℕ
 number_of log = log.number
 
@@ -31,7 +32,7 @@ number_of log = log.number
 abbrev pub is_settled : Log → Bool
 is_settled log = log.end_with == log.end
 
--- a reader's shelf, the place of its file, and the gate of the record that comes next
+-- a reader's shelf, the place of its file, the gate of the record that comes next, and how many records stand before it
 abbrev pub reader_shelf : LogReader → Shelf
 reader_shelf reader = reader.shelf
 
@@ -40,6 +41,9 @@ reader_place reader = reader.place
 
 abbrev pub reader_at : LogReader → ℕ
 reader_at reader = reader.at
+
+abbrev pub reader_number : LogReader → ℕ
+reader_number reader = reader.number
 
 -- the closed gate was met
 abbrev pub has_ended : LogReader → Bool
@@ -81,6 +85,11 @@ pub record IsUnsettled (files : Files) (may_leave : List ℕ → File → Type 0
 abbrev pub Stands : Files → (List ℕ → File → Type 0) → Log → Type 0
 Stands files may_leave log = IsSettled files may_leave log ⊎ ((old : Shelved) × (body : List ℕ) × IsUnsettled files may_leave log old body)
 
+-- the bytes that were read ahead are the file's
+pub record IsAhead (file : File) (block : Block) : Type 0 where
+  pub within : block.count ≤ length (bytes_of file) - block.start
+  pub bytes : take block.count block.bytes ≡ take block.count (drop block.start (bytes_of file))
+
 -- the live log in these files has the records that the reader passed, and then what is to come
 pub record IsAt (files : Files) (reader : LogReader) : Type 0 where
   pub passed : List Entry
@@ -88,6 +97,7 @@ pub record IsAt (files : Files) (reader : LogReader) : Type 0 where
   pub number : reader.number ≡ length passed
   pub within : reader.at ≤ length (bytes_of (files reader.place))
   pub ended : reader.ended ≡ true → rest_of files reader ≡ ended (Closed reader.at)
+  pub ahead : IsAhead (files reader.place) reader.block
 
 -- so it is, and all of it is durable
 pub record IsReading (files : Files) (may_leave : List ℕ → File → Type 0) (reader : LogReader) : Type 0 where
@@ -99,16 +109,11 @@ pub record IsBeforeOrAfter (shelf : Shelf) (place : List ℕ) (may_leave : List 
   pub others : (q : List ℕ) → q ≢ place → may_leave q (left q)
   pub log : (shelved shelf left ≡ old) ⊎ (shelved shelf left ≡ added body old)
 
--- At each other place is what a stop might have left before; the shelf has no log yet, or a whole new one, or a stop might have left all of it before.
-pub record IsMaking (shelf : Shelf) (may_leave : List ℕ → File → Type 0) (left : Files) : Type 0 where
+-- At each other place is what a crash might have left before. The shelf is as a crash might have left it before; or, only if reads gave
+-- no log when the making began, it has none or a whole new one.
+pub record IsMaking (shelf : Shelf) (files : Files) (may_leave : List ℕ → File → Type 0) (left : Files) : Type 0 where
   pub others : (q : List ℕ) → IsElsewhere shelf q → may_leave q (left q)
-  pub log : IsImage may_leave left ⊎ ((shelved shelf left ≡ NoLog) ⊎ (shelved shelf left ≡ fresh shelf))
-
--- where there was no log there is a new one, and nothing else has changed
-pub record Makes (shelf : Shelf) (files now : Files) : Type 0 where
-  pub none : shelved shelf files ≡ NoLog
-  pub made : shelved shelf now ≡ fresh shelf
-  pub others : (q : List ℕ) → IsElsewhere shelf q → now q ≡ files q
+  pub log : IsImage may_leave left ⊎ ((shelved shelf files ≡ NoLog) × ((shelved shelf left ≡ NoLog) ⊎ (shelved shelf left ≡ fresh shelf)))
 
 -- the bytes of a new log that is live, of generation 1, and of one that is not, each with its closed gate
 abbrev pub live_log : List ℕ
@@ -117,13 +122,29 @@ live_log = 1 ∷ 1 ∷ 1 ∷ 0 ∷ 0 ∷ 0 ∷ 0 ∷ 0 ∷ 0 ∷ 0 ∷ 0 ∷ []
 abbrev pub idle_log : List ℕ
 idle_log = 0 ∷ 1 ∷ 0 ∷ 0 ∷ 0 ∷ 0 ∷ 0 ∷ 0 ∷ 0 ∷ 0 ∷ 0 ∷ []
 
+-- both logs are there and durable, as they are in a new log, and nothing else has changed
+pub record HasLogs (shelf : Shelf) (files now : Files) (may_leave : List ℕ → File → Type 0) : Type 0 where
+  pub first : now (log_place shelf First) ≡ Some live_log
+  pub second : now (log_place shelf Second) ≡ Some idle_log
+  pub durable : (side : Side) → Only (now (log_place shelf side)) (may_leave (log_place shelf side))
+  pub others : (q : List ℕ) → IsNoLog shelf q → now q ≡ files q
+
 -- the three places hold the bytes of a new log
 pub record HasNewLog (shelf : Shelf) (files : Files) : Type 0 where
   pub ready : files (ready_place shelf) ≡ Some []
   pub first : files (log_place shelf First) ≡ Some live_log
   pub second : files (log_place shelf Second) ≡ Some idle_log
 
+-- where there was no log there is a new one, and nothing else has changed
+pub record Makes (shelf : Shelf) (files now : Files) : Type 0 where
+  pub none : shelved shelf files ≡ NoLog
+  pub made : shelved shelf now ≡ fresh shelf
+  pub bytes : HasNewLog shelf now
+  pub others : (q : List ℕ) → IsElsewhere shelf q → now q ≡ files q
+
 -- a record more, and nothing else has changed
 pub record Adds (shelf : Shelf) (place : List ℕ) (files now : Files) (body : List ℕ) : Type 0 where
   pub log : shelved shelf now ≡ added body (shelved shelf files)
+  -- the same in the bytes of the file
+  pub spelled : (bodies : List (List ℕ)) → HasRecords (files place) bodies → HasRecords (now place) (bodies ++ body ∷ [])
   pub others : (q : List ℕ) → q ≢ place → now q ≡ files q

@@ -21,3 +21,7 @@ log_place Site Second = codes "Site/log.1"
 pub record IsElsewhere (shelf : Shelf) (q : List ℕ) : Type 0 where
   pub ready : q ≢ ready_place shelf
   pub logs : (side : Side) → q ≢ log_place shelf side
+
+-- a place that is neither of the logs
+abbrev pub IsNoLog : Shelf → List ℕ → Type 0
+IsNoLog shelf q = (side : Side) → q ≢ log_place shelf side

@@ -1,8 +1,9 @@
 //! A record is written behind the closed gate, and then the gate is opened.
-ghost use Rattle.std.specs.Prelude.{◌≡◌, ◌≢◌, ◌+◌, ◌^◌, ◌≤◌, ◌++◌, [], ◌∷◌, List, ℕ, length, take, Some, None, OnOk};
+ghost use Rattle.std.specs.Prelude.{◌≡◌, ◌≢◌, ◌+◌, ◌^◌, ◌≤◌, ◌++◌, [], ◌∷◌, List, ℕ, length, take, Some, OnOk};
 ghost use Rattle.std.specs.Option.{ForSome};
 ghost use Rattle.cm_base.specs.Causes.{HasCause};
-ghost use Rattle.cm_disk.specs.Disk.{File, Files, Only, LeavesOnly};
+ghost use Rattle.cm_disk.specs.Disk.{Files, Only, LeavesOnly};
+ghost use Rattle.cm_log.specs.Frames.{LeavesAlone};
 ghost use Rattle.cm_log.specs.Records.{measured};
 ghost use Rattle.cm_log.specs.Fronts.{IsShut, Commits, IsGated};
 
@@ -22,9 +23,8 @@ pub(crate) fn commit<D: Disk>(
     requires shut { ForSome (D.reads disk.old) (λ files. (front : List ℕ) × (length front ≡ end) × IsShut front (files place.now) × Only (files place.now) (D.may_leave disk.old place.now)) }
     ensures works { ForSome (D.reads disk.old) (λ files. (front : List ℕ) → length front ≡ end → IsShut front (files place.now) → (now : Files) × (D.reads disk.new ≡ Some now) × Commits place.now front body.now files now result) }
     ensures durable { OnOk result (ForSome (D.reads disk.new) (λ files. Only (files place.now) (D.may_leave disk.new place.now))) }
-    ensures silent { D.reads disk.old ≡ None → D.reads disk.new ≡ None }
     ensures any_moment { ForSome (D.reads disk.old) (λ files. (front : List ℕ) → length front ≡ end → IsShut front (files place.now) → LeavesOnly D.moment D.left_since disk.old disk.new (IsGated place.now (D.may_leave disk.old) front body.now)) }
-    ensures others { (q : List ℕ) (file : File) → q ≢ place.now → D.may_leave disk.new q file → D.may_leave disk.old q file }
+    ensures alone { LeavesAlone (λ q. q ≢ place.now) D.reads D.may_leave D.moment D.left_since D.faults disk.old disk.new }
     ensures cause { HasCause (D.faults disk.old) (D.faults disk.new) result }
 {
     let mut buffer = [0u8; 65541];

@@ -1,14 +1,17 @@
 //! A log is opened for reading.
-ghost use Rattle.std.specs.Prelude.{◌≡◌, ◌≤◌, List, ℕ, OnOk, IfOk, IsErrOf};
+ghost use Rattle.std.specs.Prelude.{◌≡◌, ◌≢◌, List, ℕ, Err, OnOk, IfOk, IsErrOf};
 ghost use Rattle.std.specs.Option.{ForSome};
 ghost use Rattle.cm_base.specs.Causes.{Rose, HasCause};
-ghost use Rattle.cm_disk.specs.Disk.{IsImage, LeavesNoMore, LeavesOnly};
+ghost use Rattle.cm_disk.specs.Disk.{Only};
+ghost use Rattle.cm_log.specs.declared.shelf.Side.{Side as LogSide};
+ghost use Rattle.cm_log.specs.Frames.{OnlyReads};
+ghost use Rattle.cm_log.specs.Shelves.{log_place};
 ghost use Rattle.cm_log.specs.Logs.{NoLog, Unread, Live, head_at, shelved, IsLook};
 ghost use Rattle.cm_log.specs.Settled.{reader_shelf, reader_place, rest_of, IsReading, Rests};
 
 use crate::faults::LogFault;
 use crate::head::{Choice, Head, choose, read_head};
-use crate::position::LogReader;
+use crate::position::{Block, LogReader};
 use crate::shelf::{Shelf, Side, log_at, ready_at};
 use cm_base::Place;
 use cm_disk::{Disk, DiskFault};
@@ -23,10 +26,9 @@ impl LogReader {
         ensures reading { IfOk result (λ reader. ForSome (D.reads disk.new) (λ files. IsReading files (D.may_leave disk.new) reader)) }
         ensures no_library { IsErrOf result LogFault.NoLibrary → ForSome (D.reads disk.old) (λ files. shelved shelf files ≡ NoLog) }
         ensures unreadable { (place : List ℕ) (at : ℕ) → IsErrOf result (LogFault.Unreadable place at) → ForSome (D.reads disk.old) (λ files. shelved shelf files ≡ Unread place at) }
-        ensures same { D.reads disk.new ≡ D.reads disk.old }
-        ensures stop { LeavesNoMore (D.may_leave disk.old) (D.may_leave disk.new) }
-        ensures run { LeavesOnly D.moment D.left_since disk.old disk.new (IsImage (D.may_leave disk.old)) }
-        ensures later { D.faults disk.old ≤ D.faults disk.new }
+        // Except after a fault of the disk a crash preserves the three places.
+        ensures rests { result ≢ Err LogFault.Disk → ForSome (D.reads disk.new) (λ files. Rests shelf files (D.may_leave disk.new)) }
+        ensures only { OnlyReads D.reads D.may_leave D.moment D.left_since D.faults disk.old disk.new }
         ensures cause { IsErrOf result LogFault.Disk → Rose (D.faults disk.old) (D.faults disk.new) }
     {
         sync_places(disk, shelf)?;
@@ -37,6 +39,7 @@ impl LogReader {
                 at: 10,
                 number: 0,
                 ended: false,
+                block: Block::none(),
             }),
             Some(Choice::Refused { side, at }) => Err(LogFault::Unreadable {
                 place: log_at(shelf, side),
@@ -50,12 +53,20 @@ impl LogReader {
 // The three places become durable.
 fn sync_places<D: Disk>(disk: &mut D, shelf: Shelf) -> Result<(), DiskFault>
     ensures rests { OnOk result (ForSome (D.reads disk.new) (λ files. Rests shelf files (D.may_leave disk.new))) }
-    ensures same { D.reads disk.new ≡ D.reads disk.old }
-    ensures stop { LeavesNoMore (D.may_leave disk.old) (D.may_leave disk.new) }
-    ensures run { LeavesOnly D.moment D.left_since disk.old disk.new (IsImage (D.may_leave disk.old)) }
+    ensures only { OnlyReads D.reads D.may_leave D.moment D.left_since D.faults disk.old disk.new }
     ensures cause { HasCause (D.faults disk.old) (D.faults disk.new) result }
 {
     disk.sync(&ready_at(shelf))?;
+    sync_logs(disk, shelf)?;
+    Ok(())
+}
+
+/// Both logs become durable.
+pub(crate) fn sync_logs<D: Disk>(disk: &mut D, shelf: Shelf) -> Result<(), DiskFault>
+    ensures durable { OnOk result (ForSome (D.reads disk.old) (λ files. (side : LogSide) → Only (files (log_place shelf side)) (D.may_leave disk.new (log_place shelf side)))) }
+    ensures only { OnlyReads D.reads D.may_leave D.moment D.left_since D.faults disk.old disk.new }
+    ensures cause { HasCause (D.faults disk.old) (D.faults disk.new) result }
+{
     disk.sync(&log_at(shelf, Side::First))?;
     disk.sync(&log_at(shelf, Side::Second))?;
     Ok(())
@@ -64,9 +75,7 @@ fn sync_places<D: Disk>(disk: &mut D, shelf: Shelf) -> Result<(), DiskFault>
 // Which log is live, None where there is no log.
 fn look<D: Disk>(disk: &mut D, shelf: Shelf) -> Result<Option<Choice>, DiskFault>
     ensures value { IfOk result (λ found. ForSome (D.reads disk.old) (λ files. IsLook found shelf files)) }
-    ensures same { D.reads disk.new ≡ D.reads disk.old }
-    ensures stop { LeavesNoMore (D.may_leave disk.old) (D.may_leave disk.new) }
-    ensures run { LeavesOnly D.moment D.left_since disk.old disk.new (IsImage (D.may_leave disk.old)) }
+    ensures only { OnlyReads D.reads D.may_leave D.moment D.left_since D.faults disk.old disk.new }
     ensures cause { HasCause (D.faults disk.old) (D.faults disk.new) result }
 {
     if disk.size(&ready_at(shelf))?.is_none() {
@@ -80,9 +89,7 @@ fn look<D: Disk>(disk: &mut D, shelf: Shelf) -> Result<Option<Choice>, DiskFault
 // The head of a file.
 fn head_on<D: Disk>(disk: &mut D, place: &Place) -> Result<Head, DiskFault>
     ensures value { IfOk result (λ head. ForSome (D.reads disk.old) (λ files. head ≡ head_at files place.now)) }
-    ensures same { D.reads disk.new ≡ D.reads disk.old }
-    ensures stop { LeavesNoMore (D.may_leave disk.old) (D.may_leave disk.new) }
-    ensures run { LeavesOnly D.moment D.left_since disk.old disk.new (IsImage (D.may_leave disk.old)) }
+    ensures only { OnlyReads D.reads D.may_leave D.moment D.left_since D.faults disk.old disk.new }
     ensures cause { HasCause (D.faults disk.old) (D.faults disk.new) result }
 {
     let mut bytes = [0u8; 10];

@@ -1,5 +1,5 @@
 //! Where a reader of a log is.
-ghost use Rattle.std.specs.Prelude.{◌^◌, ◌<◌, ◌≤◌};
+ghost use Rattle.std.specs.Prelude.{◌+◌, ◌^◌, ◌<◌, ◌≤◌};
 
 use crate::shelf::Shelf;
 use cm_base::Place;
@@ -13,6 +13,18 @@ pub struct LogReader {
     pub(crate) at: u64,
     pub(crate) number: u64,
     pub(crate) ended: bool,
+    // Bytes of the file that were read ahead.
+    pub(crate) block: Block,
     ghost at_in_range: { at < 2 ^ 41 },
     ghost number_in_range: { number ≤ at },
+}
+
+/// Bytes of one file, read ahead: the first `count` of the array, which stand in the file from `start` on.
+#[derive(Drop)]
+pub struct Block {
+    pub(crate) bytes: [u8; 65536],
+    pub(crate) start: u64,
+    pub(crate) count: usize,
+    ghost few: { count ≤ 65536 },
+    ghost within: { 0 < count → start + count ≤ 2 ^ 40 + 196608 },
 }

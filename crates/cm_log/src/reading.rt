@@ -2,8 +2,10 @@
 ghost use Rattle.std.specs.Prelude.{◌≡◌, ◌≤◌, List, ℕ, [], ◌∷◌, true, take, IfOk, IsErrOf, OnErr, IfSome, IfNone};
 ghost use Rattle.std.specs.Option.{ForSome};
 ghost use Rattle.cm_base.specs.Causes.{Rose};
-ghost use Rattle.cm_disk.specs.Disk.{Files, IsImage, LeavesNoMore, LeavesOnly};
+ghost use Rattle.cm_disk.specs.Disk.{Files};
+ghost use Rattle.cm_log.specs.Frames.{OnlyReads};
 ghost use Rattle.cm_log.specs.Logs.{Closed, Broken, ended, following};
+ghost use Rattle.cm_log.specs.Outcomes.{IsWhere};
 ghost use Rattle.cm_log.specs.Settled.{reader_shelf, reader_place, reader_at, has_ended, rest_of, shelf_of, place_of, end_of, is_settled, IsAt, IsReading, EndsIn};
 
 use crate::faults::LogFault;
@@ -34,18 +36,16 @@ impl LogReader {
         ensures ended { IfOk result (λ found. IfNone found (has_ended self.new ≡ true)) }
         ensures unreadable { (place : List ℕ) (at : ℕ) → IsErrOf result (LogFault.Unreadable place at) → (place ≡ reader_place self.old) × ForSome (D.reads disk.old) (λ files. rest_of files self.old ≡ ended (Broken at)) }
         ensures library { IsErrOf result LogFault.NoLibrary → ⊥ }
-        ensures stays { OnErr result (self.new ≡ self.old) }
+        // After a fault the reader is where it was.
+        ensures stays { OnErr result (IsWhere self.old self.new) }
         ensures shelf { reader_shelf self.new ≡ reader_shelf self.old }
         ensures place { reader_place self.new ≡ reader_place self.old }
-        ensures same { D.reads disk.new ≡ D.reads disk.old }
-        ensures stop { LeavesNoMore (D.may_leave disk.old) (D.may_leave disk.new) }
-        ensures run { LeavesOnly D.moment D.left_since disk.old disk.new (IsImage (D.may_leave disk.old)) }
-        ensures later { D.faults disk.old ≤ D.faults disk.new }
+        ensures only { OnlyReads D.reads D.may_leave D.moment D.left_since D.faults disk.old disk.new }
         ensures cause { IsErrOf result LogFault.Disk → Rose (D.faults disk.old) (D.faults disk.new) }
     {
         let place = self.place;
         let mut start = [0u8; 5];
-        let count = disk.read_at(&place, self.at, &mut start)?;
+        let count = self.block.read_at(disk, &place, self.at, &mut start)?;
         match read_prefix(&start[..count]) {
             Prefix::Shut => {
                 self.ended = true;
@@ -61,7 +61,9 @@ impl LogReader {
             }),
             Prefix::Body { len } => {
                 let len = len as usize;
-                let count = disk.read_at(&place, self.at + 5, &mut buf[..len])?;
+                let count = self
+                    .block
+                    .read_at(disk, &place, self.at + 5, &mut buf[..len])?;
                 if count < len {
                     return Err(LogFault::Unreadable {
                         place,

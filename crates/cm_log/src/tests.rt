@@ -17,7 +17,7 @@ fn last<D: Disk>(disk: &mut D, shelf: Shelf) -> Result<Log, LogFault>
 {
     let mut buf = [0u8; 65536];
     let mut reader = LogReader::open(disk, shelf)?;
-    for _ in 0..100 {
+    for _ in 0..20_000 {
         match reader.next(disk, &mut buf) {
             Ok(Some(_)) => {}
             Ok(None) => return Ok(reader.done()),
@@ -257,16 +257,57 @@ fn a_stop_at_each_call(rt: HostRuntime) -> Result<(), Fail> {
     let shelf = Shelf::PkgLib;
     let bodies = [b"first".as_slice(), b"", b"the third"];
     let mut calls = 0;
-    for at in 0..60 {
+    // Until a run meets no failing call.
+    for at in 0..1000 {
         let mut disk = MemDisk::stopping(rt.alloc(), at)?;
         let done = grow(&mut disk, shelf, &bodies);
-        if done < 4 {
-            calls = at + 1;
-        }
         assert!(rt; leaves_all(&disk, shelf, &bodies, done)?, "stopped at {at}");
+        calls = at;
+        if done == 4 {
+            break;
+        }
     }
-    // 11 calls make the log; then each record takes 6 to open, 1 for the closed gate, 2 for each record before it, and 4.
-    assert_eq!(rt; calls, 11 + 3 * 11 + 2 + 4);
+    // 11 calls make the log; then each record takes 6 to open, 1 to read the closed gate, 1 for what stands before it, and 4.
+    assert_eq!(rt; calls, 11 + 11 + 12 + 12);
+    Ok(())
+}
+
+fn lay_behind<D: Disk>(disk: &mut D, place: &Place, bytes: &[u8]) -> bool {
+    match disk.size(place) {
+        Ok(Some(at)) if at < 1_000_000 && bytes.len() < 10_000 => {
+            disk.write_at(place, at, bytes).is_ok()
+        }
+        _ => false,
+    }
+}
+
+// Lays 100 times 100 records of 61 bytes behind the head of a log, and a closed gate.
+fn lay_many<D: Disk>(disk: &mut D, place: &Place) -> bool {
+    let mut hundred = [7u8; 6600];
+    for i in 0..100usize {
+        hundred[66 * i..66 * i + 5].copy_from_slice(b"\x01\x3d\0\0\0");
+    }
+    for _ in 0..100 {
+        if !lay_behind(disk, place, &hundred) {
+            return false;
+        }
+    }
+    lay_behind(disk, place, &[0])
+}
+
+#[test]
+fn many_records(rt: HostRuntime) -> Result<(), Fail> {
+    let shelf = Shelf::PkgLib;
+    let first = log_at(shelf, Side::First);
+    // 205 calls lay the log; the 100th one after them fails.
+    let mut disk = MemDisk::stopping(rt.alloc(), 205 + 99)?;
+    assert!(rt; lay(&mut disk, &first, Some(&LIVE[..10])) && lay_many(&mut disk, &first));
+    assert!(rt; lay(&mut disk, &log_at(shelf, Side::Second), Some(IDLE)));
+    assert!(rt; lay(&mut disk, &ready_at(shelf), Some(b"")));
+    match last(&mut disk, shelf) {
+        Ok(log) => assert_eq!(rt; (log.number, log.end()), (10_000, 660_010)),
+        Err(_) => assert!(rt; false, "a log of many records"),
+    }
     Ok(())
 }
 

@@ -1,9 +1,9 @@
 //! A small file that is written whole.
-ghost use Rattle.std.specs.Prelude.{◌≡◌, ◌≢◌, ◌<◌, length, List, ℕ, Some, None, OnOk};
+ghost use Rattle.std.specs.Prelude.{◌≡◌, ◌≢◌, ◌<◌, length, Some, OnOk};
 ghost use Rattle.std.specs.Option.{ForSome};
 ghost use Rattle.cm_base.specs.Causes.{HasCause};
-ghost use Rattle.cm_disk.specs.Disk.{File, Files, put, Only, LeavesOnly};
-ghost use Rattle.cm_log.specs.Settled.{KeepsReads};
+ghost use Rattle.cm_disk.specs.Disk.{put, Only};
+ghost use Rattle.cm_log.specs.Frames.{LeavesAlone};
 
 use cm_base::Place;
 use cm_disk::{Disk, DiskFault};
@@ -17,10 +17,7 @@ pub(crate) fn write_file<D: Disk>(
     requires { length bytes.now < 100 }
     ensures made { OnOk result (ForSome (D.reads disk.old) (λ files. D.reads disk.new ≡ Some (put files place.now (Some bytes.now)))) }
     ensures durable { OnOk result (ForSome (D.reads disk.old) (λ files. Only (Some bytes.now) (D.may_leave disk.new place.now))) }
-    ensures silent { D.reads disk.old ≡ None → D.reads disk.new ≡ None }
-    ensures kept { KeepsReads (λ q. q ≢ place.now) (D.reads disk.old) (D.reads disk.new) }
-    ensures others { (q : List ℕ) (file : File) → q ≢ place.now → D.may_leave disk.new q file → D.may_leave disk.old q file }
-    ensures run { LeavesOnly D.moment D.left_since disk.old disk.new (λ (left : Files). (q : List ℕ) → q ≢ place.now → D.may_leave disk.old q (left q)) }
+    ensures alone { LeavesAlone (λ q. q ≢ place.now) D.reads D.may_leave D.moment D.left_since D.faults disk.old disk.new }
     ensures cause { HasCause (D.faults disk.old) (D.faults disk.new) result }
 {
     disk.write_at(place, 0, bytes)?;

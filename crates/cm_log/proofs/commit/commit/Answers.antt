@@ -1,8 +1,10 @@
 use Rattle.std.proofs.Common.{◌≡◌, inl, inr, ◌+◌, ◌≤◌, [], ◌∷◌, length, take, sym, ◌∙◌, subst, arith, rules}
+use Rattle.std.specs.Prelude.{◌≢◌}
 use Rattle.std.proofs.lemmas.Option.{same_Some}
 use Rattle.cm_disk.specs.Disk.{Files, put, bytes_of, written}
 use Rattle.cm_disk.proofs.Puts.{told_before, put_there}
 use Rattle.cm_log.proofs.Along.{begun, next, quiet}
+use Rattle.cm_log.proofs.Frames.{only_call, alone_call, alone_only, alone_then}
 use Rattle.cm_log.proofs.Images.{behind, over_gate, staged_put, opened_put, partly_staged, partly_opened, still_shut, long_enough}
 use Rattle.cm_log.proofs.commit.commit.Goals as goal
 
@@ -159,3 +161,46 @@ returns-clause-any_moment g c x told front long h =
     (λ q f other now. c.write_at.ensures.touches.others q f other (c.sync.ensures.stop q f now)) c.write_at-2.ensures.touches) in
     let j = quiet d.may_leave d.moment d.left_since c.args.place.now front c.args.body.now c.args.disk.now c.write_at-2.new.self c.sync-2.new.self i c.sync-2.ensures.time c.sync-2.ensures.stop in
     j.so_far
+
+pub returns-in_err-write_at-clause-alone : goal.returns-in_err-write_at-clause-alone
+returns-in_err-write_at-clause-alone g c =
+    let d = g.D.Disk in
+    alone_call d.reads d.may_leave d.moment d.left_since d.faults c.args.disk.now c.write_at.new.self (g.met.D.Disk.only_now c.args.disk.now) c.args.place.now (written (c.args.end + 1) (take c.assemble-count.result c.assemble-count.new.buffer)) _ c.write_at.result c.write_at.ensures.work c.write_at.ensures.touches c.write_at.ensures.time c.write_at.ensures.cause.later
+
+pub returns-in_err-sync-clause-alone : goal.returns-in_err-sync-clause-alone
+returns-in_err-sync-clause-alone g c =
+    let d = g.D.Disk in
+    alone_then
+    (alone_call d.reads d.may_leave d.moment d.left_since d.faults c.args.disk.now c.write_at.new.self (g.met.D.Disk.only_now c.args.disk.now) c.args.place.now (written (c.args.end + 1) (take c.assemble-count.result c.assemble-count.new.buffer)) _ c.write_at.result c.write_at.ensures.work c.write_at.ensures.touches c.write_at.ensures.time c.write_at.ensures.cause.later)
+    (alone_only (λ q. q ≢ c.args.place.now) (only_call d.reads d.may_leave d.moment d.left_since d.faults c.write_at.new.self c.sync.new.self (g.met.D.Disk.only_now c.write_at.new.self) c.sync.ensures.same c.sync.ensures.stop c.sync.ensures.time c.sync.ensures.cause.later))
+
+pub returns-in_err-write_at-2-clause-alone : goal.returns-in_err-write_at-2-clause-alone
+returns-in_err-write_at-2-clause-alone g c =
+    let d = g.D.Disk in
+    alone_then
+    (alone_then
+    (alone_call d.reads d.may_leave d.moment d.left_since d.faults c.args.disk.now c.write_at.new.self (g.met.D.Disk.only_now c.args.disk.now) c.args.place.now (written (c.args.end + 1) (take c.assemble-count.result c.assemble-count.new.buffer)) _ c.write_at.result c.write_at.ensures.work c.write_at.ensures.touches c.write_at.ensures.time c.write_at.ensures.cause.later)
+    (alone_only (λ q. q ≢ c.args.place.now) (only_call d.reads d.may_leave d.moment d.left_since d.faults c.write_at.new.self c.sync.new.self (g.met.D.Disk.only_now c.write_at.new.self) c.sync.ensures.same c.sync.ensures.stop c.sync.ensures.time c.sync.ensures.cause.later)))
+    (alone_call d.reads d.may_leave d.moment d.left_since d.faults c.sync.new.self c.write_at-2.new.self (g.met.D.Disk.only_now c.sync.new.self) c.args.place.now (written c.args.end (1 ∷ [])) _ c.write_at-2.result c.write_at-2.ensures.work c.write_at-2.ensures.touches c.write_at-2.ensures.time c.write_at-2.ensures.cause.later)
+
+pub returns-in_err-sync-2-clause-alone : goal.returns-in_err-sync-2-clause-alone
+returns-in_err-sync-2-clause-alone g c =
+    let d = g.D.Disk in
+    alone_then
+    (alone_then
+    (alone_then
+    (alone_call d.reads d.may_leave d.moment d.left_since d.faults c.args.disk.now c.write_at.new.self (g.met.D.Disk.only_now c.args.disk.now) c.args.place.now (written (c.args.end + 1) (take c.assemble-count.result c.assemble-count.new.buffer)) _ c.write_at.result c.write_at.ensures.work c.write_at.ensures.touches c.write_at.ensures.time c.write_at.ensures.cause.later)
+    (alone_only (λ q. q ≢ c.args.place.now) (only_call d.reads d.may_leave d.moment d.left_since d.faults c.write_at.new.self c.sync.new.self (g.met.D.Disk.only_now c.write_at.new.self) c.sync.ensures.same c.sync.ensures.stop c.sync.ensures.time c.sync.ensures.cause.later)))
+    (alone_call d.reads d.may_leave d.moment d.left_since d.faults c.sync.new.self c.write_at-2.new.self (g.met.D.Disk.only_now c.sync.new.self) c.args.place.now (written c.args.end (1 ∷ [])) _ c.write_at-2.result c.write_at-2.ensures.work c.write_at-2.ensures.touches c.write_at-2.ensures.time c.write_at-2.ensures.cause.later))
+    (alone_only (λ q. q ≢ c.args.place.now) (only_call d.reads d.may_leave d.moment d.left_since d.faults c.write_at-2.new.self c.sync-2.new.self (g.met.D.Disk.only_now c.write_at-2.new.self) c.sync-2.ensures.same c.sync-2.ensures.stop c.sync-2.ensures.time c.sync-2.ensures.cause.later))
+
+pub returns-clause-alone : goal.returns-clause-alone
+returns-clause-alone g c =
+    let d = g.D.Disk in
+    alone_then
+    (alone_then
+    (alone_then
+    (alone_call d.reads d.may_leave d.moment d.left_since d.faults c.args.disk.now c.write_at.new.self (g.met.D.Disk.only_now c.args.disk.now) c.args.place.now (written (c.args.end + 1) (take c.assemble-count.result c.assemble-count.new.buffer)) _ c.write_at.result c.write_at.ensures.work c.write_at.ensures.touches c.write_at.ensures.time c.write_at.ensures.cause.later)
+    (alone_only (λ q. q ≢ c.args.place.now) (only_call d.reads d.may_leave d.moment d.left_since d.faults c.write_at.new.self c.sync.new.self (g.met.D.Disk.only_now c.write_at.new.self) c.sync.ensures.same c.sync.ensures.stop c.sync.ensures.time c.sync.ensures.cause.later)))
+    (alone_call d.reads d.may_leave d.moment d.left_since d.faults c.sync.new.self c.write_at-2.new.self (g.met.D.Disk.only_now c.sync.new.self) c.args.place.now (written c.args.end (1 ∷ [])) _ c.write_at-2.result c.write_at-2.ensures.work c.write_at-2.ensures.touches c.write_at-2.ensures.time c.write_at-2.ensures.cause.later))
+    (alone_only (λ q. q ≢ c.args.place.now) (only_call d.reads d.may_leave d.moment d.left_since d.faults c.write_at-2.new.self c.sync-2.new.self (g.met.D.Disk.only_now c.write_at-2.new.self) c.sync-2.ensures.same c.sync-2.ensures.stop c.sync-2.ensures.time c.sync-2.ensures.cause.later))

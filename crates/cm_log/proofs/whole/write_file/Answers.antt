@@ -1,10 +1,10 @@
-use Rattle.std.proofs.Common.{ℕ, List, length, sym, ◌∙◌, ap}
+use Rattle.std.proofs.Common.{length, sym, ◌∙◌, ap}
 use Rattle.std.specs.Prelude.{◌≢◌, Some}
 use Rattle.std.proofs.lemmas.Option.{same_Some}
 use Rattle.cm_disk.specs.Disk.{File, Files, put, written, shortened}
 use Rattle.cm_disk.proofs.Puts.{told_before, put_here, put_put}
 use Rattle.cm_log.proofs.Written.{may_cut, cut_file}
-use Rattle.cm_log.proofs.Keeping.{keeps_same, keeps_then, keeps_others}
+use Rattle.cm_log.proofs.Frames.{only_call, alone_call, alone_only, alone_then}
 use Rattle.cm_log.proofs.whole.write_file.Goals as goal
 
 pub cut-requires : goal.cut-requires
@@ -27,34 +27,34 @@ returns-clause-durable g c x told left l =
     ∙ put_here files c.args.place.now _
     ∙ cut_file x c.args.place.now c.args.bytes.now
 
-pub returns-in_err-write_at-clause-kept : goal.returns-in_err-write_at-clause-kept
-returns-in_err-write_at-clause-kept g c =
+pub returns-in_err-write_at-clause-alone : goal.returns-in_err-write_at-clause-alone
+returns-in_err-write_at-clause-alone g c =
     let d = g.D.Disk in
-    keeps_others (d.reads c.args.disk.now) (d.reads c.write_at.new.self) c.args.place.now (written 0 c.args.bytes.now) c.write_at.result c.write_at.ensures.work
+    alone_call d.reads d.may_leave d.moment d.left_since d.faults c.args.disk.now c.write_at.new.self (g.met.D.Disk.only_now c.args.disk.now) c.args.place.now (written 0 c.args.bytes.now) _ c.write_at.result c.write_at.ensures.work c.write_at.ensures.touches c.write_at.ensures.time c.write_at.ensures.cause.later
 
-pub returns-in_err-cut-clause-kept : goal.returns-in_err-cut-clause-kept
-returns-in_err-cut-clause-kept g c =
+pub returns-in_err-cut-clause-alone : goal.returns-in_err-cut-clause-alone
+returns-in_err-cut-clause-alone g c =
     let d = g.D.Disk in
-    keeps_then (λ q. q ≢ c.args.place.now) (d.reads c.args.disk.now) (d.reads c.write_at.new.self) (d.reads c.cut.new.self)
-    (keeps_others (d.reads c.args.disk.now) (d.reads c.write_at.new.self) c.args.place.now (written 0 c.args.bytes.now) c.write_at.result c.write_at.ensures.work)
-    (keeps_others (d.reads c.write_at.new.self) (d.reads c.cut.new.self) c.args.place.now (shortened (length c.args.bytes.now)) c.cut.result c.cut.ensures.work)
+    alone_then
+    (alone_call d.reads d.may_leave d.moment d.left_since d.faults c.args.disk.now c.write_at.new.self (g.met.D.Disk.only_now c.args.disk.now) c.args.place.now (written 0 c.args.bytes.now) _ c.write_at.result c.write_at.ensures.work c.write_at.ensures.touches c.write_at.ensures.time c.write_at.ensures.cause.later)
+    (alone_call d.reads d.may_leave d.moment d.left_since d.faults c.write_at.new.self c.cut.new.self (g.met.D.Disk.only_now c.write_at.new.self) c.args.place.now (shortened (length c.args.bytes.now)) _ c.cut.result c.cut.ensures.work c.cut.ensures.touches c.cut.ensures.time c.cut.ensures.cause.later)
 
-pub returns-in_err-sync-clause-kept : goal.returns-in_err-sync-clause-kept
-returns-in_err-sync-clause-kept g c =
+pub returns-in_err-sync-clause-alone : goal.returns-in_err-sync-clause-alone
+returns-in_err-sync-clause-alone g c =
     let d = g.D.Disk in
-    let others : List ℕ → Type 0 = λ q. q ≢ c.args.place.now in
-    keeps_then others (d.reads c.args.disk.now) (d.reads c.cut.new.self) (d.reads c.sync.new.self)
-    (keeps_then others (d.reads c.args.disk.now) (d.reads c.write_at.new.self) (d.reads c.cut.new.self)
-    (keeps_others (d.reads c.args.disk.now) (d.reads c.write_at.new.self) c.args.place.now (written 0 c.args.bytes.now) c.write_at.result c.write_at.ensures.work)
-    (keeps_others (d.reads c.write_at.new.self) (d.reads c.cut.new.self) c.args.place.now (shortened (length c.args.bytes.now)) c.cut.result c.cut.ensures.work))
-    (keeps_same others (d.reads c.cut.new.self) (d.reads c.sync.new.self) c.sync.ensures.same)
+    alone_then
+    (alone_then
+    (alone_call d.reads d.may_leave d.moment d.left_since d.faults c.args.disk.now c.write_at.new.self (g.met.D.Disk.only_now c.args.disk.now) c.args.place.now (written 0 c.args.bytes.now) _ c.write_at.result c.write_at.ensures.work c.write_at.ensures.touches c.write_at.ensures.time c.write_at.ensures.cause.later)
+    (alone_call d.reads d.may_leave d.moment d.left_since d.faults c.write_at.new.self c.cut.new.self (g.met.D.Disk.only_now c.write_at.new.self) c.args.place.now (shortened (length c.args.bytes.now)) _ c.cut.result c.cut.ensures.work c.cut.ensures.touches c.cut.ensures.time c.cut.ensures.cause.later))
+    (alone_only (λ q. q ≢ c.args.place.now)
+    (only_call d.reads d.may_leave d.moment d.left_since d.faults c.cut.new.self c.sync.new.self (g.met.D.Disk.only_now c.cut.new.self) c.sync.ensures.same c.sync.ensures.stop c.sync.ensures.time c.sync.ensures.cause.later))
 
-pub returns-clause-kept : goal.returns-clause-kept
-returns-clause-kept g c =
+pub returns-clause-alone : goal.returns-clause-alone
+returns-clause-alone g c =
     let d = g.D.Disk in
-    let others : List ℕ → Type 0 = λ q. q ≢ c.args.place.now in
-    keeps_then others (d.reads c.args.disk.now) (d.reads c.cut.new.self) (d.reads c.sync.new.self)
-    (keeps_then others (d.reads c.args.disk.now) (d.reads c.write_at.new.self) (d.reads c.cut.new.self)
-    (keeps_others (d.reads c.args.disk.now) (d.reads c.write_at.new.self) c.args.place.now (written 0 c.args.bytes.now) c.write_at.result c.write_at.ensures.work)
-    (keeps_others (d.reads c.write_at.new.self) (d.reads c.cut.new.self) c.args.place.now (shortened (length c.args.bytes.now)) c.cut.result c.cut.ensures.work))
-    (keeps_same others (d.reads c.cut.new.self) (d.reads c.sync.new.self) c.sync.ensures.same)
+    alone_then
+    (alone_then
+    (alone_call d.reads d.may_leave d.moment d.left_since d.faults c.args.disk.now c.write_at.new.self (g.met.D.Disk.only_now c.args.disk.now) c.args.place.now (written 0 c.args.bytes.now) _ c.write_at.result c.write_at.ensures.work c.write_at.ensures.touches c.write_at.ensures.time c.write_at.ensures.cause.later)
+    (alone_call d.reads d.may_leave d.moment d.left_since d.faults c.write_at.new.self c.cut.new.self (g.met.D.Disk.only_now c.write_at.new.self) c.args.place.now (shortened (length c.args.bytes.now)) _ c.cut.result c.cut.ensures.work c.cut.ensures.touches c.cut.ensures.time c.cut.ensures.cause.later))
+    (alone_only (λ q. q ≢ c.args.place.now)
+    (only_call d.reads d.may_leave d.moment d.left_since d.faults c.cut.new.self c.sync.new.self (g.met.D.Disk.only_now c.cut.new.self) c.sync.ensures.same c.sync.ensures.stop c.sync.ensures.time c.sync.ensures.cause.later))
