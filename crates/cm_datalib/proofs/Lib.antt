@@ -2,6 +2,5 @@ pub mod Alone
 pub mod Decimals
 pub mod Loaded
 pub mod Names
-pub mod Steps
 pub mod Stores
 pub mod Writes

@@ -1,6 +1,6 @@
 -- The places of manifests, by their names.
 use Rattle.std.proofs.Common.{◌≡◌, ℕ, ◌+◌, ◌-◌, ◌<◌, ◌≤◌, ◌^◌, Bool, true, false, List, [], ◌∷◌, ◌++◌, length, take, drop, refl, sym, ◌∙◌, ap, subst, arith, length-append, length-drop}
-use Rattle.std.specs.Prelude.{◌&&◌, ◌==◌, nat_le, nat_lt, Option, None, Some, is_some, cond, if◌then◌else◌}
+use Rattle.std.specs.Prelude.{◌&&◌, ◌==◌, nat_le, nat_lt, Option, None, Some, is_some, cond, IfSome}
 use Rattle.std.specs.List.{list_all}
 use Rattle.std.specs.Str.{bytes_eq}
 use Rattle.std.specs.Str.Parse.{digits_value}
@@ -11,8 +11,9 @@ use Rattle.std.proofs.lemmas.List.{take_all}
 use Rattle.std.proofs.lemmas.Option.{none-some, same_Some}
 use Rattle.std.proofs.lemmas.Slice.Eq.{bytes_eq-Decides}
 use Rattle.cm_base.specs.Names.{is_package_id, is_code_byte, is_upper_hex, text_if}
-use Rattle.cm_disk.specs.Disk.{Files, is_above}
-use Rattle.cm_datalib.specs.Places.{folder, folder_end, manifest_place, is_version, named_if, version_named, is_manifest_place, stored}
+use Rattle.cm_disk.specs.Disk.{is_above}
+use Rattle.cm_disk.proofs.Rises.{above_above}
+use Rattle.cm_datalib.specs.Places.{folder, folder_end, manifest_place, is_version, named_if, version_named, is_manifest_place}
 
 pub both : (a b : Bool) → (a && b) ≡ true → (a ≡ true) × (b ≡ true)
 both true true is = (refl, refl)
@@ -111,21 +112,22 @@ is_within q form =
     let h = is_there (version_named q) form in
     subst (λ (p : List ℕ). is_above (Some folder) p ≡ true) (sym (named_place q h.0 h.1).1) (above_folder h.0.0 h.0.1)
 
-pub not_past : (q : List ℕ) → is_manifest_place q ≡ true → is_above (Some folder_end) q ≡ true → ⊥
+not_past : (q : List ℕ) → is_manifest_place q ≡ true → is_above (Some folder_end) q ≡ true → ⊥
 not_past q form past =
     let h = is_there (version_named q) form in
     false≢true (ap (λ (p : List ℕ). is_above (Some folder_end) p) (sym (named_place q h.0 h.1).1) ∙ past)
 
--- a stored manifest is there, at a place of its form
-pub stored_is : (files : Files) (q : List ℕ) → is_some (stored files q) ≡ true → (is_manifest_place q ≡ true) × (is_some (files q) ≡ true)
-stored_is files q there = by (is_manifest_place q) refl
+pub past_manifest : (place q : List ℕ) → is_above (Some folder_end) place ≡ true → is_above (Some place) q ≡ true → is_manifest_place q ≡ false
+past_manifest place q past above = by (is_manifest_place q) refl
   where
-    by : (b : Bool) → is_manifest_place q ≡ b → (is_manifest_place q ≡ true) × (is_some (files q) ≡ true)
-    by true form = (form, sym (ap (λ (b : Bool). is_some (if b then files q else None)) form) ∙ there)
-    by false other = absurd (false≢true (sym (ap (λ (b : Bool). is_some (if b then files q else None)) other) ∙ there))
+    by : (b : Bool) → is_manifest_place q ≡ b → b ≡ false
+    by true form = absurd (not_past q form (above_above folder_end place q past above))
+    by false form = refl
 
-pub is_stored : (files : Files) (q : List ℕ) → is_manifest_place q ≡ true → is_some (files q) ≡ true → is_some (stored files q) ≡ true
-is_stored files q form there = ap (λ (b : Bool). is_some (if b then files q else None)) form ∙ there
+-- what is read of a place
+pub named_back : (read : Option (List ℕ × ℕ)) (place : List ℕ) → read ≡ version_named place → IfSome read (λ (named : List ℕ × ℕ). manifest_place named.0 named.1 ≡ place)
+named_back None place is = tt
+named_back (Some named) place is = sym (named_place place named (sym is)).1
 
 -- what is read of the place of a version
 pub id_read : (bytes id : List ℕ) (version : ℕ) → Version id version → bytes ≡ manifest_place id version → text_if (is_package_id (take 8 (drop 8 bytes))) (take 8 (drop 8 bytes)) ≡ Some id

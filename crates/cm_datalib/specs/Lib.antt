@@ -1,4 +1,3 @@
 pub mod Loads
 pub mod Places
 pub mod Spellings
-pub mod Walks

@@ -1,10 +1,11 @@
 -- The places of stored manifests: `DataLib/`, the package, `.` and the version in decimal.
-use Rattle.std.specs.Prelude.{ℕ, ◌^◌, ◌&&◌, nat_le, nat_lt, Bool, List, ◌∷◌, ◌++◌, take, drop, codes, Option, None, Some, is_some, cond, if◌then◌else◌}
+use Rattle.std.specs.Prelude.{ℕ, ◌^◌, ◌&&◌, nat_le, nat_lt, Bool, List, ◌∷◌, ◌++◌, take, drop, codes, Option, None, Some, is_some, option_map, cond}
 use Rattle.std.specs.Str.{bytes_eq}
 use Rattle.std.specs.Str.Parse.{digits_value}
 use Rattle.std.specs.Fmt.{decimal}
 use Rattle.cm_base.specs.Names.{is_package_id}
 use Rattle.cm_disk.specs.Disk.{Files}
+use Rattle.cm_disk.specs.Walks.{only_at}
 
 -- the folder of all manifests
 abbrev pub folder : List ℕ
@@ -19,8 +20,7 @@ abbrev pub manifest_place : List ℕ → ℕ → List ℕ
 manifest_place id version = folder ++ id ++ 46 ∷ decimal version
 
 abbrev pub place_or_none : Option (List ℕ × ℕ) → Option (List ℕ)
-place_or_none None = None
-place_or_none (Some named) = Some (manifest_place named.0 named.1)
+place_or_none named = option_map (λ (named : List ℕ × ℕ). manifest_place named.0 named.1) named
 
 -- a package id, and a version from 1 to 2^32 - 1
 abbrev pub is_version : List ℕ → ℕ → Bool
@@ -40,4 +40,4 @@ is_manifest_place place = is_some (version_named place)
 
 -- the files at such places alone
 abbrev pub stored : Files → Files
-stored files place = if is_manifest_place place then files place else None
+stored files place = only_at is_manifest_place files place

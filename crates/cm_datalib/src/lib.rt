@@ -9,14 +9,15 @@ mod loading;
 mod places;
 mod putting;
 mod spelling;
-mod step;
 mod storing;
+mod syncing;
 mod walking;
 
 pub use erasing::erase;
 pub use faults::DataFault;
 pub use loading::load;
 pub use storing::store;
+pub use syncing::sync;
 pub use walking::next;
 
 #[cfg(test)]

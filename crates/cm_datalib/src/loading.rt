@@ -1,6 +1,7 @@
 //! A stored manifest is loaded.
-ghost use Rattle.std.specs.Prelude.{◌≡◌, ◌≢◌, ◌≤◌, ◌<◌, ℕ, length, take, Some, IfOk, IfErr, IsErrOf, option_map};
+ghost use Rattle.std.specs.Prelude.{◌≡◌, ◌≢◌, ◌≤◌, ◌<◌, ◌==◌, ◌&&◌, ℕ, length, take, Some, IfOk, IfErr, IsErrOf, option_map};
 ghost use Rattle.std.specs.Option.{ForSome};
+ghost use Rattle.std.specs.Str.{bytes_eq};
 ghost use Rattle.sha2.specs.Sha256.{sha256};
 ghost use Rattle.cm_base.specs.Causes.{Rose, HasCause};
 ghost use Rattle.cm_base.specs.declared.hash.Hash.{Hash as hash_value};
@@ -16,6 +17,9 @@ use cm_disk::{Disk, DiskFault, hash_file};
 use cm_tree::{Manifest, TreeFault};
 use sha2::{Digest, Sha256};
 use std::alloc::Global;
+
+/// The most bytes that a manifest has: 9, and at most 277 for each of 20,000 entries.
+const MOST_BYTES: u64 = 5_540_009;
 
 /// Loads the manifest of a version, whose spelling is to have this size and this SHA-256.
 pub fn load<D: Disk>(
@@ -40,16 +44,49 @@ pub fn load<D: Disk>(
     let Some(found) = disk.size(&place)? else {
         return Err(DataFault::NotHere);
     };
-    if found != u64::from(size) {
-        let (found, got) = hash_file(disk, &place, found)?;
-        return Err(DataFault::OtherBytes {
-            named: hash,
-            got,
-            size,
-            found,
-        });
+    if found == u64::from(size) && found <= MOST_BYTES {
+        return load_named(alloc, disk, &place, size, hash);
     }
-    load_named(alloc, disk, &place, size, hash)
+    load_other(alloc, disk, &place, size, hash)
+}
+
+// The same where the file has another size, or more bytes than a manifest. It is hashed in pieces, and held only where it is
+// what was named.
+fn load_other<D: Disk>(
+    alloc: Global,
+    disk: &mut D,
+    place: &Place,
+    size: u32,
+    hash: Hash,
+) -> Result<Manifest, DataFault>
+    ensures answer { ForSome (D.reads disk.old) (λ files. Answers result (loaded hash size (files place.now))) }
+    ensures named { IfOk result (λ manifest. (length (spelling manifest) ≡ size) × (sha256 (spelling manifest) ≡ hash.0)) }
+    ensures other { (named got : hash_value) (of found : ℕ) → IsErrOf result (DataFault.OtherBytes named got of found) → (named ≡ hash) × (of ≡ size) }
+    ensures same { D.reads disk.new ≡ D.reads disk.old }
+    ensures stop { LeavesNoMore (D.may_leave disk.old) (D.may_leave disk.new) }
+    ensures run { LeavesOnly D.moment D.left_since disk.old disk.new (IsImage (D.may_leave disk.old)) }
+    ensures later { D.faults disk.old ≤ D.faults disk.new }
+    ensures cause { IsErrOf result DataFault.Disk → Rose (D.faults disk.old) (D.faults disk.new) }
+{
+    let Some(file) = hash_file(disk, place)? else {
+        return Err(DataFault::NotHere);
+    };
+    if is_named(file, size, hash) {
+        return load_named(alloc, disk, place, size, hash);
+    }
+    Err(DataFault::OtherBytes {
+        named: hash,
+        got: file.1,
+        size,
+        found: file.0,
+    })
+}
+
+// Whether a file has the size and the SHA-256 that were named.
+fn is_named(file: (u64, Hash), size: u32, hash: Hash) -> bool
+    ensures { result ≡ ((file.0 == size) && bytes_eq file.1.0 hash.0) }
+{
+    file.0 == u64::from(size) && file.1 == hash
 }
 
 // Loads a manifest from a place whose file has the size.

@@ -1,14 +1,62 @@
 //! The places of manifests.
 ghost use Rattle.std.specs.Prelude.{◌≡◌, ◌<◌, ◌^◌, ℕ, Some};
 ghost use Rattle.std.specs.Fmt.{decimal};
-ghost use Rattle.hex.specs.Hex.{IsBytes};
 ghost use Rattle.cm_disk.specs.Disk.{is_above};
 ghost use Rattle.cm_datalib.specs.Places.{folder, folder_end, manifest_place, version_named};
-ghost use Rattle.cm_disk.specs.Ranks.{IsText};
 
 use crate::decimal::write_decimal;
 use crate::putting::put;
 use cm_base::{PackageId, Place, Version};
+use cm_disk::Form;
+
+/// The form of the places of manifests: `DataLib/`, the package, `.` and the version in decimal.
+pub(crate) struct ManifestPlace;
+
+impl Form for ManifestPlace {
+    ghost use Rattle.cm_datalib.specs.Places.{manifest_place, is_manifest_place};
+
+    type Named = (PackageId, Version);
+
+    ghost is_form = { is_manifest_place };
+
+    ghost place_of = { λ named. manifest_place named.0 named.1 };
+
+    fn folder() -> Place {
+        folder_place()
+    }
+
+    fn place(named: (PackageId, Version)) -> Place {
+        manifest_at(named.0, named.1)
+    }
+
+    fn named(place: &Place) -> Option<(PackageId, Version)> {
+        version_at(place)
+    }
+
+    fn is_past(place: &Place) -> bool {
+        is_behind(place)
+    }
+}
+
+// The folder, below the places of all manifests.
+fn folder_place() -> Place
+    ensures { result ≡ folder }
+{
+    match Place::read(b"DataLib/") {
+        Some(place) => place,
+        None => unreachable!(),
+    }
+}
+
+// Whether a place is behind the folder.
+fn is_behind(place: &Place) -> bool
+    ensures { result ≡ is_above (Some folder_end) place.now }
+{
+    match Place::read(b"DataLib0") {
+        Some(end) => end < *place,
+        None => unreachable!(),
+    }
+}
 
 /// The place of the manifest of a version.
 pub(crate) fn manifest_at(id: PackageId, version: Version) -> Place
@@ -27,16 +75,6 @@ pub(crate) fn manifest_at(id: PackageId, version: Version) -> Place
     }
 }
 
-/// The folder, below the places of all manifests.
-pub(crate) fn folder_place() -> Place
-    ensures { result ≡ folder }
-{
-    match Place::read(b"DataLib/") {
-        Some(place) => place,
-        None => unreachable!(),
-    }
-}
-
 // The number that a text spells, where it is spelled with no zero in front.
 fn number_in(text: &[u8]) -> Option<u32>
     ensures { (number : ℕ) → number < 2 ^ 32 → text.now ≡ decimal number → result ≡ Some number }
@@ -50,8 +88,8 @@ fn number_in(text: &[u8]) -> Option<u32>
     }
 }
 
-/// The version whose manifest has this place. None where it is no place of a manifest.
-pub(crate) fn version_at(place: &Place) -> Option<(PackageId, Version)>
+// The version whose manifest has this place. None where it is no place of a manifest.
+fn version_at(place: &Place) -> Option<(PackageId, Version)>
     ensures { result ≡ version_named place.now }
 {
     let bytes = place.as_bytes();
@@ -72,29 +110,4 @@ pub(crate) fn version_at(place: &Place) -> Option<(PackageId, Version)>
     } else {
         None
     }
-}
-
-/// Whether a place is above those of all manifests.
-pub(crate) fn is_past(place: &Place) -> bool
-    ensures { result ≡ is_above (Some folder_end) place.now }
-{
-    match Place::read(b"DataLib0") {
-        Some(end) => end < *place,
-        None => unreachable!(),
-    }
-}
-
-// A place is a text.
-pub(crate) fn tell_text(place: &Place)
-    ensures { IsText place.now }
-{
-    let text = place.as_bytes();
-    tell_bytes(text);
-}
-
-// Bytes are below 256.
-fn tell_bytes(text: &[u8])
-    ensures { IsBytes text.now }
-{
-    let _many = text.len();
 }

@@ -1,10 +1,9 @@
-//! Manifests on a disk in memory: exact answers, what a stop leaves, the walk, and each fault.
-use crate::{DataFault, erase, load, next, store};
+//! Manifests on a disk in memory: exact answers, what a stop leaves, and the walk.
+use crate::{DataFault, erase, load, next, store, sync};
 use cm_base::{Hash, PackageId, Place, Version};
-use cm_disk::{Disk, DiskFault, MemDisk};
+use cm_disk::{Disk, MemDisk};
 use cm_tree::{Manifest, TreeFault};
 use std::alloc::Global;
-use std::process::Abort;
 use std::test::Fail;
 
 // A manifest of one file `a.txt` of the bytes `abc`; its SHA-256, by another program, and that with its last byte one more.
@@ -68,11 +67,16 @@ fn count<D: Disk>(
     }
 }
 
+fn place(text: &[u8]) -> Result<Place, Fail> {
+    match Place::read(text) {
+        Some(place) => Ok(place),
+        None => Err(Fail::new("no place")),
+    }
+}
+
 // Puts bytes over the front of the file at a place.
 fn write_raw(disk: &mut MemDisk, text: &[u8], bytes: &[u8]) -> Result<(), Fail> {
-    let Some(place) = Place::read(text) else {
-        return Err(Fail::new("no place"));
-    };
+    let place = place(text)?;
     if bytes.len() > 51 {
         return Err(Fail::new("too long"));
     }
@@ -109,112 +113,59 @@ fn shorter_over_longer(rt: HostRuntime) -> Result<(), Fail> {
 }
 
 #[test]
-fn other_bytes(rt: HostRuntime) -> Result<(), Fail> {
+fn other_answers(rt: HostRuntime) -> Result<(), Fail> {
     let alloc = rt.alloc();
     let mut disk = MemDisk::new(alloc, Vec::new(alloc))?;
     let id = package()?;
     let named = hash_of(ONE_HASH)?;
-    let mut bytes = *ONE;
-    bytes[50] = 0xae;
-    write_raw(&mut disk, b"DataLib/PS100001.1", &bytes)?;
+    let got = hash_of(CHANGED_HASH)?;
+    let mut changed = *ONE;
+    changed[50] = 0xae;
+    write_raw(&mut disk, b"DataLib/PS100001.1", &changed)?;
     for size in [51, 50] {
         let other = DataFault::OtherBytes {
             named,
-            got: hash_of(CHANGED_HASH)?,
+            got,
             size,
             found: 51,
         };
         assert_eq!(rt; count(alloc, &mut disk, id, size, named), Err(other));
     }
-    Ok(())
-}
-
-#[test]
-fn bad_manifest(rt: HostRuntime) -> Result<(), Fail> {
-    let alloc = rt.alloc();
     let mut disk = MemDisk::new(alloc, Vec::new(alloc))?;
-    write_raw(&mut disk, b"DataLib/PS100001.1", BAD)?;
     let bad = DataFault::BadManifest {
         fault: TreeFault::BadForm { at: 4 },
     };
+    write_raw(&mut disk, b"DataLib/PS100001.1", BAD)?;
+    let stored = place(b"DataLib/PS100001.1")?;
+    assert!(rt; sync(&mut disk, id, version(1)?) == Ok(stored));
     assert_eq!(rt;
-        count(alloc, &mut disk, package()?, 9, hash_of(BAD_HASH)?),
+        count(alloc, &mut disk.crash(0)?, id, 9, hash_of(BAD_HASH)?),
         Err(bad)
     );
     Ok(())
 }
 
-// Whether the walk goes from a version to another, or begins or ends.
-fn goes(disk: &mut MemDisk, from: Option<u32>, to: Option<u32>) -> Result<bool, Fail> {
-    let id = package()?;
-    let after = match from {
-        Some(number) => Some((id, version(number)?)),
-        None => None,
-    };
-    let then = match to {
-        Some(number) => Some((id, version(number)?)),
-        None => None,
-    };
-    Ok(next(disk, after) == Ok(then))
-}
-
 #[test]
 fn a_walk(rt: HostRuntime) -> Result<(), Fail> {
     let mut disk = MemDisk::new(rt.alloc(), Vec::new(rt.alloc()))?;
-    write_raw(&mut disk, b"DataLib/PS100001.1", NONE)?;
-    write_raw(&mut disk, b"DataLib/PS100001.01", NONE)?;
-    write_raw(&mut disk, b"DataLib/PS100001.10", NONE)?;
-    write_raw(&mut disk, b"DataLib/PS100001.2", NONE)?;
-    write_raw(&mut disk, b"DataLib/PS100001.4294967295", NONE)?;
-    write_raw(&mut disk, b"DataLib/PS100001.4294967296", NONE)?;
-    write_raw(&mut disk, b"FileLib/PS100001.3", NONE)?;
-    assert!(rt; goes(&mut disk, None, Some(1))?);
-    assert!(rt; goes(&mut disk, Some(1), Some(10))?);
-    assert!(rt; goes(&mut disk, Some(10), Some(2))?);
-    assert!(rt; goes(&mut disk, Some(2), Some(4294967295))?);
-    assert!(rt; goes(&mut disk, Some(4294967295), None)?);
-    Ok(())
-}
-
-// The calls of a storing, a loading, a step of the walk and an erasure, of which one fails.
-fn try_failing(alloc: Global, at: u64) -> Result<[bool; 4], Fail> {
     let id = package()?;
-    let first = version(1)?;
-    let mut fail = Vec::new(alloc);
-    fail.push(at)?;
-    let mut disk = MemDisk::new(alloc, fail)?;
-    let one = manifest_of(alloc, ONE)?;
-    Ok([
-        store(&mut disk, id, first, &one) == Err(DiskFault),
-        count(alloc, &mut disk, id, 51, hash_of(ONE_HASH)?) == Err(DataFault::Disk),
-        next(&mut disk, None) == Err(DiskFault),
-        erase(&mut disk, id, first) == Err(DiskFault),
-    ])
-}
-
-fn try_each(rt: &impl Abort, alloc: Global) -> Result<(), Fail> {
-    // Four calls store the manifest; a loading takes two, a step of the walk one, an erasure two.
-    for (at, call) in [
-        (0, 0),
-        (1, 0),
-        (2, 0),
-        (3, 0),
-        (4, 1),
-        (5, 1),
-        (6, 2),
-        (7, 3),
-        (8, 3),
-        (9, 4),
+    for text in [
+        b"DataLib/PS100001.1".as_slice(),
+        b"DataLib/PS100001.01",
+        b"DataLib/PS100001.10",
+        b"DataLib/PS100001.2",
+        b"DataLib/PS100001.4294967295",
+        b"DataLib/PS100001.4294967296",
+        b"FileLib/PS100001.3",
     ] {
-        let failed = try_failing(alloc, at)?;
-        for (number, has_failed) in failed.iter().enumerate() {
-            assert_eq!(rt; *has_failed, number == call, "at {at}");
-        }
+        write_raw(&mut disk, text, NONE)?;
     }
+    let mut after = None;
+    for number in [1, 10, 2, 4294967295] {
+        let then = Some((id, version(number)?));
+        assert_eq!(rt; next(&mut disk, after), Ok(then));
+        after = then;
+    }
+    assert_eq!(rt; next(&mut disk, after), Ok(None));
     Ok(())
-}
-
-#[test]
-fn a_fault_at_each_call(rt: HostRuntime) -> Result<(), Fail> {
-    try_each(&rt, rt.alloc())
 }

@@ -1,15 +1,17 @@
 -- The places of files, by their names.
 use Rattle.std.proofs.Common.{◌≡◌, ℕ, Bool, true, false, List, [], ◌∷◌, ◌++◌, length, take, drop, refl, sym, ◌∙◌, ap, subst, arith}
-use Rattle.std.specs.Prelude.{Option, None, Some, is_some, cond, if◌then◌else◌}
+use Rattle.std.specs.Prelude.{Option, None, Some, is_some, option_map, cond, IfSome}
 use Rattle.std.specs.Str.{bytes_eq}
 use Rattle.std.proofs.lemmas.Bool.{false≢true}
 use Rattle.std.proofs.lemmas.List.{take-append-drop}
 use Rattle.std.proofs.lemmas.Option.{none-some}
 use Rattle.std.proofs.lemmas.Slice.Eq.{bytes_eq-Decides}
 use Rattle.hex.specs.Hex.{IsBytes, encode_lower}
+use Rattle.cm_base.specs.declared.hash.Hash.{Hash}
 use Rattle.cm_base.specs.Hashes.{hash_of_text}
-use Rattle.cm_disk.specs.Disk.{Files, is_above}
-use Rattle.cm_filelib.specs.Places.{folder, folder_end, file_place, hash_named, is_file_place, stored}
+use Rattle.cm_disk.specs.Disk.{is_above}
+use Rattle.cm_disk.proofs.Rises.{above_above}
+use Rattle.cm_filelib.specs.Places.{folder, folder_end, file_place, hash_named, is_file_place}
 use Rattle.cm_filelib.proofs.Digits.{text_of_hash, text_long, hash_again}
 
 pub is_there : {A : Type 0} (o : Option A) → is_some o ≡ true → (a : A) × (o ≡ Some a)
@@ -44,18 +46,23 @@ is_within q form =
     let long : length (encode_lower h.0) ≡ 64 = ap length (sym text) ∙ text_long (drop 8 q) h.0 parts.1 in
     subst (λ (p : List ℕ). is_above (Some folder) p ≡ true) (sym (named_place q h.0 h.1)) (above_folder (encode_lower h.0) long)
 
-pub not_past : (q : List ℕ) → is_file_place q ≡ true → is_above (Some folder_end) q ≡ true → ⊥
+not_past : (q : List ℕ) → is_file_place q ≡ true → is_above (Some folder_end) q ≡ true → ⊥
 not_past q form past =
     let h = is_there (hash_named q) form in
     false≢true (ap (λ (p : List ℕ). is_above (Some folder_end) p) (sym (named_place q h.0 h.1)) ∙ past)
 
--- a stored file is there, at a place of its form
-pub stored_is : (files : Files) (q : List ℕ) → is_some (stored files q) ≡ true → (is_file_place q ≡ true) × (is_some (files q) ≡ true)
-stored_is files q there = by (is_file_place q) refl
+pub past_file : (place q : List ℕ) → is_above (Some folder_end) place ≡ true → is_above (Some place) q ≡ true → is_file_place q ≡ false
+past_file place q past above = by (is_file_place q) refl
   where
-    by : (b : Bool) → is_file_place q ≡ b → (is_file_place q ≡ true) × (is_some (files q) ≡ true)
-    by true form = (form, sym (ap (λ (b : Bool). is_some (if b then files q else None)) form) ∙ there)
-    by false other = absurd (false≢true (sym (ap (λ (b : Bool). is_some (if b then files q else None)) other) ∙ there))
+    by : (b : Bool) → is_file_place q ≡ b → b ≡ false
+    by true form = absurd (not_past q form (above_above folder_end place q past above))
+    by false form = refl
 
-pub is_stored : (files : Files) (q : List ℕ) → is_file_place q ≡ true → is_some (files q) ≡ true → is_some (stored files q) ≡ true
-is_stored files q form there = ap (λ (b : Bool). is_some (if b then files q else None)) form ∙ there
+-- what is read of a place
+pub named_form : (read : Option Hash) (place : List ℕ) → option_map (λ (hash : Hash). hash.0) read ≡ hash_named place → is_some read ≡ is_file_place place
+named_form None place is = ap (λ (o : Option (List ℕ)). is_some o) is
+named_form (Some hash) place is = ap (λ (o : Option (List ℕ)). is_some o) is
+
+pub named_back : (read : Option Hash) (place : List ℕ) → option_map (λ (hash : Hash). hash.0) read ≡ hash_named place → IfSome read (λ (hash : Hash). file_place hash.0 ≡ place)
+named_back None place is = tt
+named_back (Some hash) place is = sym (named_place place hash.0 (sym is))

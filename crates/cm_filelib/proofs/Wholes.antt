@@ -1,22 +1,30 @@
--- A file that is read whole.
-use Rattle.std.proofs.Common.{◌≡◌, ℕ, Bool, List, length, sym, ◌∙◌, ap, eq-eqb}
-use Rattle.std.specs.Prelude.{◌&&◌, Option, None, Some, option_map}
+-- A file by its size and its hash.
+use Rattle.std.proofs.Common.{◌≡◌, ℕ, Bool, false, List, length, refl, sym, ◌∙◌, ap, eq-eqb}
+use Rattle.std.specs.Prelude.{◌==◌, ◌&&◌, Option, None, Some}
 use Rattle.std.specs.Str.{bytes_eq}
 use Rattle.std.proofs.lemmas.Option.{same_Some, none-some}
+use Rattle.std.proofs.lemmas.Slice.Eq.{bytes_eq-Decides}
 use Rattle.sha2.specs.Sha256.{sha256}
-use Rattle.cm_disk.specs.Disk.{File, bytes_of}
-use Rattle.cm_filelib.specs.Stored.{is_file_of}
+use Rattle.cm_base.specs.declared.hash.Hash.{Hash}
+use Rattle.cm_disk.specs.Disk.{File, Files}
+use Rattle.cm_disk.specs.Hashed.{hashed}
+use Rattle.cm_filelib.specs.Stored.{is_file_of, IsKept, IsFileSure}
 
--- a file of the size that was told
-pub length_is : (file : File) (told : Option ℕ) (found size : ℕ) → told ≡ Some found → found ≡ size → told ≡ option_map length file → length (bytes_of file) ≡ size
-length_is None told found size some is value = absurd (none-some found (sym value ∙ some))
-length_is (Some bytes) told found size some is value = same_Some (length bytes) found (sym value ∙ some) ∙ is
+-- a file that was found is judged by its size and its hash
+pub is_file_of-hashed : (file : File) (read : ℕ) (got : Hash) (hash : List ℕ) (size : ℕ) → Some (read, got) ≡ hashed file → is_file_of hash size file ≡ ((read == size) && bytes_eq got.0 hash)
+is_file_of-hashed None read got hash size is = absurd (none-some (read, got) (sym is))
+is_file_of-hashed (Some bytes) read got hash size is =
+    let same : (read, got) ≡ (length bytes, record { 0 = sha256 bytes }) = same_Some (read, got) (length bytes, record { 0 = sha256 bytes }) is in
+    ap (λ (found : ℕ × Hash). (found.0 == size) && bytes_eq found.1.0 hash) (sym same)
 
--- a file of the right size, by the hash of its bytes
-pub whole_is : (file : File) (told : Option ℕ) (found size : ℕ) (got hash : List ℕ) (same : Bool) → told ≡ Some found → found ≡ size → told ≡ option_map length file
-    → (length (bytes_of file) ≡ size → got ≡ sha256 (bytes_of file)) → same ≡ bytes_eq got hash → same ≡ is_file_of hash size file
-whole_is None told found size got hash same some is value fed eq = absurd (none-some found (sym value ∙ some))
-whole_is (Some bytes) told found size got hash same some is value fed eq =
-    let long : length bytes ≡ size = length_is (Some bytes) told found size some is value in
-    let hashed : got ≡ sha256 bytes = fed long in
-    eq ∙ ap (λ (g : List ℕ). bytes_eq g hash) hashed ∙ sym (ap (λ (b : Bool). b && bytes_eq (sha256 bytes) hash) (eq-eqb (length bytes) size long))
+-- no file was found
+pub is_file_of-absent : (file : File) (hash : List ℕ) (size : ℕ) → None ≡ hashed file → is_file_of hash size file ≡ false
+is_file_of-absent None hash size is = refl
+is_file_of-absent (Some bytes) hash size is = absurd (none-some (length bytes, record { 0 = sha256 bytes }) is)
+
+-- a file that is kept is sure
+pub is_sure : (files : Files) (may_leave : List ℕ → File → Type 0) (hash : List ℕ) (size : ℕ) → IsKept files may_leave hash size → IsFileSure may_leave hash size
+is_sure files may_leave hash size kept left may =
+    ap (is_file_of hash size) (kept.leaves left may)
+    ∙ ap (λ (b : Bool). b && bytes_eq (sha256 kept.bytes) hash) (eq-eqb (length kept.bytes) size kept.size_is)
+    ∙ (bytes_eq-Decides (sha256 kept.bytes) hash).1 kept.hash_is

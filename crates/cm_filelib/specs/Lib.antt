@@ -1,4 +1,3 @@
 pub mod Places
 pub mod Stored
 pub mod Writings
-pub mod Walks

@@ -1,10 +1,11 @@
 -- The places of files: `FileLib/` and the 64 digits of the hash.
-use Rattle.std.specs.Prelude.{ℕ, Bool, List, ◌++◌, take, drop, codes, Option, None, Some, is_some, cond, if◌then◌else◌}
+use Rattle.std.specs.Prelude.{ℕ, Bool, List, ◌++◌, take, drop, codes, Option, None, is_some, option_map, cond}
 use Rattle.std.specs.Str.{bytes_eq}
 use Rattle.hex.specs.Hex.{encode_lower}
 use Rattle.cm_base.specs.declared.hash.Hash.{Hash}
 use Rattle.cm_base.specs.Hashes.{hash_of_text}
 use Rattle.cm_disk.specs.Disk.{Files}
+use Rattle.cm_disk.specs.Walks.{only_at}
 
 -- the folder of all files
 abbrev pub folder : List ℕ
@@ -19,8 +20,7 @@ abbrev pub file_place : List ℕ → List ℕ
 file_place hash = folder ++ encode_lower hash
 
 abbrev pub place_or_none : Option Hash → Option (List ℕ)
-place_or_none None = None
-place_or_none (Some hash) = Some (file_place hash.0)
+place_or_none named = option_map (λ (hash : Hash). file_place hash.0) named
 
 -- the hash whose file has this place
 abbrev pub hash_named : List ℕ → Option (List ℕ)
@@ -32,4 +32,4 @@ is_file_place place = is_some (hash_named place)
 
 -- the files at such places alone
 abbrev pub stored : Files → Files
-stored files place = if is_file_place place then files place else None
+stored files place = only_at is_file_place files place

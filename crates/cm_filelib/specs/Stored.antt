@@ -1,5 +1,5 @@
 -- What stands at the place of a hash.
-use Rattle.std.specs.Prelude.{◌≡◌, ℕ, Bool, false, ◌==◌, ◌&&◌, List, [], ◌++◌, length, None, Some}
+use Rattle.std.specs.Prelude.{◌≡◌, ℕ, Bool, true, false, ◌==◌, ◌&&◌, List, [], ◌++◌, length, None, Some}
 use Rattle.std.specs.Str.{bytes_eq}
 use Rattle.sha2.specs.Sha256.{sha256}
 use Rattle.cm_disk.specs.Disk.{File, Files, bytes_of, Only}
@@ -21,6 +21,10 @@ pub record IsKept (files : Files) (may_leave : List ℕ → File → Type 0) (ha
   pub hash_is : sha256 bytes ≡ hash
   pub size_is : length bytes ≡ size
   pub leaves : Only (Some bytes) (may_leave (file_place hash))
+
+-- whatever a stop leaves at the place of a hash is a file of this SHA-256 and this size
+abbrev pub IsFileSure : (List ℕ → File → Type 0) → List ℕ → ℕ → Type 0
+IsFileSure may_leave hash size = (left : File) → may_leave (file_place hash) left → is_file_of hash size left ≡ true
 
 -- a file that is made or made empty, and one with more bytes behind
 abbrev pub emptied : File → File

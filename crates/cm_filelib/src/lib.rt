@@ -8,7 +8,6 @@ mod places;
 mod putting;
 mod reading;
 mod salvaging;
-mod step;
 mod walking;
 mod writing;
 

@@ -1,11 +1,52 @@
 //! The places of files.
-ghost use Rattle.std.specs.Prelude.{◌≡◌, option_map};
-ghost use Rattle.hex.specs.Hex.{IsBytes};
+ghost use Rattle.std.specs.Prelude.{◌≡◌, Some, option_map};
 ghost use Rattle.cm_disk.specs.Disk.{is_above};
-ghost use Rattle.cm_filelib.specs.Places.{folder, folder_end, file_place, hash_named};
-ghost use Rattle.cm_disk.specs.Ranks.{IsText};
+ghost use Rattle.cm_filelib.specs.Places.{folder_end, file_place, hash_named};
 
 use cm_base::{Hash, Place};
+use cm_disk::Form;
+
+/// The form of the places of files: `FileLib/` and the 64 digits of the hash.
+pub(crate) struct FilePlace;
+
+impl Form for FilePlace {
+    ghost use Rattle.cm_filelib.specs.Places.{file_place, is_file_place};
+
+    type Named = Hash;
+
+    ghost is_form = { is_file_place };
+
+    ghost place_of = { λ hash. file_place hash.0 };
+
+    fn folder() -> Place {
+        match Place::read(b"FileLib/") {
+            Some(place) => place,
+            None => unreachable!(),
+        }
+    }
+
+    fn place(hash: Hash) -> Place {
+        file_at(hash)
+    }
+
+    fn named(place: &Place) -> Option<Hash> {
+        hash_at(place)
+    }
+
+    fn is_past(place: &Place) -> bool {
+        is_behind(place)
+    }
+}
+
+// Whether a place is behind the folder.
+fn is_behind(place: &Place) -> bool
+    ensures { result ≡ is_above (Some folder_end) place.now }
+{
+    match Place::read(b"FileLib0") {
+        Some(end) => end < *place,
+        None => unreachable!(),
+    }
+}
 
 /// The place of the file of a hash.
 pub(crate) fn file_at(hash: Hash) -> Place
@@ -22,18 +63,8 @@ pub(crate) fn file_at(hash: Hash) -> Place
     }
 }
 
-/// The folder, below the places of all files.
-pub(crate) fn folder_place() -> Place
-    ensures { result ≡ folder }
-{
-    match Place::read(b"FileLib/") {
-        Some(place) => place,
-        None => unreachable!(),
-    }
-}
-
-/// The hash whose file has this place. None where it is no place of a file.
-pub(crate) fn hash_at(place: &Place) -> Option<Hash>
+// The hash whose file has this place. None where it is no place of a file.
+fn hash_at(place: &Place) -> Option<Hash>
     ensures { option_map (λ hash. hash.0) result ≡ hash_named place.now }
 {
     let bytes = place.as_bytes();
@@ -41,29 +72,4 @@ pub(crate) fn hash_at(place: &Place) -> Option<Hash>
         return None;
     }
     Hash::read(&bytes[8..])
-}
-
-/// Whether a place is above those of all files.
-pub(crate) fn is_past(place: &Place) -> bool
-    ensures { result ≡ is_above (Some folder_end) place.now }
-{
-    match Place::read(b"FileLib0") {
-        Some(end) => end < *place,
-        None => unreachable!(),
-    }
-}
-
-// A place is a text.
-pub(crate) fn tell_text(place: &Place)
-    ensures { IsText place.now }
-{
-    let text = place.as_bytes();
-    tell_bytes(text);
-}
-
-// Bytes are below 256.
-fn tell_bytes(text: &[u8])
-    ensures { IsBytes text.now }
-{
-    let _many = text.len();
 }

@@ -6,7 +6,7 @@ ghost use Rattle.cm_base.specs.Causes.{Rose, HasCause};
 ghost use Rattle.cm_base.specs.declared.hash.Hash.{Hash as hash_value};
 ghost use Rattle.cm_disk.specs.Disk.{File, Files, Does, IsImage, LeavesNoMore, LeavesOnly};
 ghost use Rattle.cm_filelib.specs.Places.{file_place};
-ghost use Rattle.cm_filelib.specs.Stored.{is_named, IsKept, emptied, appended};
+ghost use Rattle.cm_filelib.specs.Stored.{is_named, IsKept, IsFileSure, emptied, appended};
 ghost use Rattle.cm_filelib.specs.Writings.{hash_of, size_of, place_of, next_of, is_spent, WasPut, IsWriting};
 
 use crate::faults::{FileFault, SealFault};
@@ -98,6 +98,7 @@ pub fn seal<D: Disk>(writing: Writing, disk: &mut D) -> Result<(), SealFault>
 
     // Whatever a stop leaves, the file is whole.
     ensures kept { OnOk result (ForSome (D.reads disk.new) (λ files. IsKept files (D.may_leave disk.new) (hash_of writing).0 (size_of writing))) }
+    ensures sure { OnOk result (ForSome (D.reads disk.new) (λ _. IsFileSure (D.may_leave disk.new) (hash_of writing).0 (size_of writing))) }
     ensures right { OnOk result ((bytes : List ℕ) → WasPut writing bytes → is_named (hash_of writing).0 (size_of writing) bytes ≡ true) }
     ensures right_then { IsErrOf result SealFault.Disk → (bytes : List ℕ) → WasPut writing bytes → is_named (hash_of writing).0 (size_of writing) bytes ≡ true }
     ensures wrong { (named : hash_value) (size : ℕ) (got : hash_value) (many : ℕ) → IsErrOf result (SealFault.WrongBytes named size got many)

@@ -1,7 +1,7 @@
-//! Files on a disk in memory: how many pieces they take, what a stop at each device call leaves, and each fault.
+//! Files on a disk in memory: how many pieces they take, each refusal, the walk, and what a stop at each device call leaves.
 use crate::{FileFault, SealFault, erase, next, put, read_at, salvage, seal, start};
 use cm_base::Hash;
-use cm_disk::{Disk, DiskFault, MemDisk};
+use cm_disk::{Disk, MemDisk};
 use std::alloc::Global;
 use std::process::Abort;
 use std::test::Fail;
@@ -63,21 +63,19 @@ fn holds<D: Disk>(disk: &mut D, hash: Hash, bytes: &[u8]) -> bool {
 }
 
 #[test]
-fn pieces(rt: HostRuntime) -> Result<(), Fail> {
+fn files_of_each_size(rt: HostRuntime) -> Result<(), Fail> {
     let mut disk = MemDisk::new(rt.alloc(), Vec::new(rt.alloc()))?;
     let sevens = [7u8; 65537];
-    let empty = hash_of(EMPTY)?;
-    let one_more = hash_of(ONE_MORE)?;
-    assert_eq!(rt; write_file(&mut disk, empty, 0, b""), Ok(0));
-    assert_eq!(rt;
-        write_file(&mut disk, hash_of(SEVENS)?, 65536, &sevens[..65536]),
-        Ok(1)
-    );
-    assert_eq!(rt; write_file(&mut disk, one_more, 65537, &sevens), Ok(2));
-    assert!(rt; holds(&mut disk, empty, b""));
-    assert_eq!(rt; salvage(&mut disk.crash(0)?, empty, 0), Ok(true));
-    assert_eq!(rt; salvage(&mut disk.crash(0)?, one_more, 65537), Ok(true));
-    assert_eq!(rt; salvage(&mut disk, one_more, 65536), Ok(false));
+    for (digits, size, bytes, pieces) in [
+        (EMPTY, 0, &sevens[..0], 0),
+        (SEVENS, 65536, &sevens[..65536], 1),
+        (ONE_MORE, 65537, &sevens[..], 2),
+    ] {
+        let hash = hash_of(digits)?;
+        assert_eq!(rt; write_file(&mut disk, hash, size, bytes), Ok(pieces));
+        assert_eq!(rt; salvage(&mut disk.crash(0)?, hash, size), Ok(true));
+        assert_eq!(rt; salvage(&mut disk, hash, 65535), Ok(false));
+    }
     Ok(())
 }
 
@@ -92,15 +90,18 @@ fn refusals(rt: HostRuntime) -> Result<(), Fail> {
         put: 3,
     };
     let mut writing = start(&mut disk, abc, 3)?;
-    assert_eq!(rt;
-        put(&mut writing, &mut disk, 1, b"abc"),
-        Err(FileFault::WrongOffset { expected: 0 })
-    );
-    assert_eq!(rt;
-        put(&mut writing, &mut disk, 0, b"abcd"),
-        Err(FileFault::TooLong { size: 3 })
-    );
-    assert_eq!(rt; put(&mut writing, &mut disk, 0, b"abc"), Ok(()));
+    assert_eq!(rt; (writing.hash(), writing.size()), (abc, 3));
+    for (offset, bytes, answer) in [
+        (
+            1,
+            b"abc".as_slice(),
+            Err(FileFault::WrongOffset { expected: 0 }),
+        ),
+        (0, b"abcd".as_slice(), Err(FileFault::TooLong { size: 3 })),
+        (0, b"abc".as_slice(), Ok(())),
+    ] {
+        assert_eq!(rt; put(&mut writing, &mut disk, offset, bytes), answer);
+    }
     assert_eq!(rt; seal(writing, &mut disk), Ok(()));
     assert_eq!(rt;
         write_file(&mut disk, abc, 3, b"abd"),
@@ -114,12 +115,15 @@ fn a_walk(rt: HostRuntime) -> Result<(), Fail> {
     let mut disk = MemDisk::new(rt.alloc(), Vec::new(rt.alloc()))?;
     let abc = hash_of(ABC)?;
     let hello = hash_of(HELLO)?;
-    assert_eq!(rt; next(&mut disk, None), Ok(None));
     assert_eq!(rt; write_file(&mut disk, abc, 3, b"abc"), Ok(1));
     assert_eq!(rt; write_file(&mut disk, hello, 5, b"hello"), Ok(1));
-    assert_eq!(rt; next(&mut disk, None), Ok(Some(hello)));
-    assert_eq!(rt; next(&mut disk, Some(hello)), Ok(Some(abc)));
-    assert_eq!(rt; next(&mut disk, Some(abc)), Ok(None));
+    for (after, then) in [
+        (None, Some(hello)),
+        (Some(hello), Some(abc)),
+        (Some(abc), None),
+    ] {
+        assert_eq!(rt; next(&mut disk, after), Ok(then));
+    }
     assert_eq!(rt; erase(&mut disk, hello), Ok(()));
     assert_eq!(rt; next(&mut disk, None), Ok(Some(abc)));
     assert_eq!(rt; salvage(&mut disk.crash(1)?, hello, 5), Ok(false));
@@ -127,17 +131,11 @@ fn a_walk(rt: HostRuntime) -> Result<(), Fail> {
 }
 
 // Whether salvage is true on each image exactly where the image has the file, and on each where it was sealed.
-fn salvages(
-    disk: &MemDisk,
-    hash: Hash,
-    bytes: &[u8],
-    size: u32,
-    sealed: bool,
-) -> Result<bool, Fail> {
+fn salvages(disk: &MemDisk, hash: Hash, sealed: bool) -> Result<bool, Fail> {
     for pick in [0u8, 1, 2] {
         let mut image = disk.crash(pick)?;
-        let there = holds(&mut image, hash, bytes);
-        if salvage(&mut image, hash, size) != Ok(there) || (sealed && !there) {
+        let there = holds(&mut image, hash, b"hello");
+        if salvage(&mut image, hash, 5) != Ok(there) || (sealed && !there) {
             return Ok(false);
         }
     }
@@ -146,20 +144,20 @@ fn salvages(
 
 fn try_stops(rt: &impl Abort, alloc: Global) -> Result<(), Fail> {
     let hello = hash_of(HELLO)?;
-    for at in 0..6 {
+    for (at, stop) in [
+        (0, Err(Stop::Start)),
+        (1, Err(Stop::Start)),
+        (2, Err(Stop::Put(FileFault::Disk))),
+        (3, Err(Stop::Seal(SealFault::Disk))),
+        (4, Ok(1)),
+    ] {
         let mut disk = MemDisk::stopping(alloc, at)?;
-        let written = write_file(&mut disk, hello, 5, b"hello");
-        let stop = match at {
-            0 | 1 => Err(Stop::Start),
-            2 => Err(Stop::Put(FileFault::Disk)),
-            3 => Err(Stop::Seal(SealFault::Disk)),
-            _ => Ok(1),
-        };
-        assert_eq!(rt; written, stop, "stopped at {at}");
-        assert!(rt;
-            salvages(&disk, hello, b"hello", 5, at > 3)?,
+        assert_eq!(rt;
+            write_file(&mut disk, hello, 5, b"hello"),
+            stop,
             "stopped at {at}"
         );
+        assert!(rt; salvages(&disk, hello, at > 3)?, "stopped at {at}");
     }
     Ok(())
 }
@@ -167,41 +165,4 @@ fn try_stops(rt: &impl Abort, alloc: Global) -> Result<(), Fail> {
 #[test]
 fn a_stop_at_each_call(rt: HostRuntime) -> Result<(), Fail> {
     try_stops(&rt, rt.alloc())
-}
-
-// The calls of a salvage, a reading, an erasure and a walk, of which one fails.
-fn try_failing(alloc: Global, at: u64) -> Result<[bool; 4], Fail> {
-    let hello = hash_of(HELLO)?;
-    let mut fail = Vec::new(alloc);
-    fail.push(at)?;
-    let mut disk = MemDisk::new(alloc, fail)?;
-    let _written = write_file(&mut disk, hello, 5, b"hello");
-    Ok([
-        salvage(&mut disk, hello, 5) == Err(DiskFault),
-        read_at(&mut disk, hello, 0, &mut [0u8; 8]) == Err(DiskFault),
-        next(&mut disk, None) == Err(DiskFault),
-        erase(&mut disk, hello) == Err(DiskFault),
-    ])
-}
-
-#[test]
-fn a_fault_at_each_call(rt: HostRuntime) -> Result<(), Fail> {
-    // Four calls write the file; a salvage takes three, a reading two, a walk one, an erasure two.
-    for (at, call) in [
-        (4, 0),
-        (5, 0),
-        (6, 0),
-        (7, 1),
-        (8, 1),
-        (9, 2),
-        (10, 3),
-        (11, 3),
-        (12, 4),
-    ] {
-        let failed = try_failing(rt.alloc(), at)?;
-        for (number, has_failed) in failed.iter().enumerate() {
-            assert_eq!(rt; *has_failed, number == call, "at {at}");
-        }
-    }
-    Ok(())
 }

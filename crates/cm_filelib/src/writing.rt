@@ -16,3 +16,21 @@ pub struct Writing {
     ghost next_is: { count_of hasher ≡ next },
     ghost within: { next ≤ size },
 }
+
+impl Writing {
+    ghost use Rattle.cm_filelib.specs.Writings.{hash_of, size_of};
+
+    /// The SHA-256 that the file is to have.
+    pub fn hash(&self) -> Hash
+        ensures { result ≡ hash_of self.now }
+    {
+        self.hash
+    }
+
+    /// The size that the file is to have, in bytes.
+    pub fn size(&self) -> u32
+        ensures { result ≡ size_of self.now }
+    {
+        self.size
+    }
+}

@@ -1,20 +1,21 @@
-use Rattle.std.proofs.Common.{◌≡◌, Bool, true, sym, ◌∙◌}
-use Rattle.std.specs.Option.{ForSome}
-use Rattle.std.proofs.lemmas.Result.{IfOk-weaker}
-use Rattle.cm_disk.specs.Disk.{Files}
-use Rattle.cm_filelib.specs.Stored.{is_file_of, IsKept}
+use Rattle.std.proofs.Common.{◌≡◌, List, ℕ, sym, ◌∙◌, subst}
+use Rattle.cm_filelib.specs.Stored.{is_file_of}
 use Rattle.cm_filelib.proofs.Adding.{kept_true}
+use Rattle.cm_filelib.proofs.Wholes.{is_sure}
 use Rattle.cm_filelib.proofs.salvaging.salvage.Goals as goal
 
+pub returns-clause-value : goal.returns-clause-value
+returns-clause-value g c x told =
+    subst (λ (place : List ℕ). c.is_that.result ≡ is_file_of c.args.hash.0 c.args.size (x place)) c.file_at-place.ensures
+    (c.is_that.ensures (x c.file_at-place.result) (c.in_ok-found.ensures.exact x (c.sync.ensures.same ∙ told)))
+
 pub returns-clause-kept : goal.returns-clause-kept
-returns-clause-kept g c =
-    let d = g.D.Disk in
-    let at = c.file_at-place.result in
-    IfOk-weaker c.is_whole.result
-    (λ (is : Bool). ForSome (d.reads c.sync.new.self) (λ (files : Files). is ≡ is_file_of c.args.hash.0 c.args.size (files at)))
-    (λ (is : Bool). is ≡ true → ForSome (d.reads c.is_whole.new.disk) (λ (files : Files). IsKept files (d.may_leave c.is_whole.new.disk) c.args.hash.0 c.args.size))
-    (λ is value good x told.
-    let synced = sym c.is_whole.ensures.same ∙ told in
-    kept_true x (d.may_leave c.is_whole.new.disk) at c.args.hash.0 c.args.size c.file_at-place.ensures (sym (value x synced) ∙ good)
-    (λ left l. c.in_ok-sync.ensures.durable x (sym c.sync.ensures.same ∙ synced) left (c.is_whole.ensures.stop at left l)))
-    c.is_whole.ensures.value
+returns-clause-kept g c good x told =
+    let place = c.file_at-place.result in
+    let synced = sym c.hash_file.ensures.same ∙ told in
+    kept_true x (g.D.Disk.may_leave c.hash_file.new.disk) place c.args.hash.0 c.args.size c.file_at-place.ensures
+    (sym (c.is_that.ensures (x place) (c.in_ok-found.ensures.exact x synced)) ∙ good)
+    (λ left may. c.in_ok-sync.ensures.durable x (sym c.sync.ensures.same ∙ synced) left (c.hash_file.ensures.stop place left may))
+
+pub returns-clause-sure : goal.returns-clause-sure
+returns-clause-sure g c good x told = is_sure x (g.D.Disk.may_leave c.hash_file.new.disk) c.args.hash.0 c.args.size (returns-clause-kept g c good x told)
