@@ -20,5 +20,3 @@ pub use storing::store;
 pub use syncing::sync;
 pub use walking::next;
 
-#[cfg(test)]
-mod tests;

@@ -19,5 +19,3 @@ pub use salvaging::salvage;
 pub use walking::next;
 pub use writing::Writing;
 
-#[cfg(test)]
-mod tests;
