@@ -18,4 +18,3 @@ pub use reading::read_at;
 pub use salvaging::salvage;
 pub use walking::next;
 pub use writing::Writing;
-
