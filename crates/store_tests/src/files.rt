@@ -91,17 +91,15 @@ fn refusals(rt: HostRuntime) -> Result<(), Fail> {
     };
     let mut writing = start(&mut disk, abc, 3)?;
     assert_eq!(rt; (writing.hash(), writing.size()), (abc, 3));
-    for (offset, bytes, answer) in [
-        (
-            1,
-            b"abc".as_slice(),
-            Err(FileFault::WrongOffset { expected: 0 }),
-        ),
-        (0, b"abcd".as_slice(), Err(FileFault::TooLong { size: 3 })),
-        (0, b"abc".as_slice(), Ok(())),
-    ] {
-        assert_eq!(rt; put(&mut writing, &mut disk, offset, bytes), answer);
-    }
+    assert_eq!(rt;
+        put(&mut writing, &mut disk, 1, b"abc"),
+        Err(FileFault::WrongOffset { expected: 0 })
+    );
+    assert_eq!(rt;
+        put(&mut writing, &mut disk, 0, b"abcd"),
+        Err(FileFault::TooLong { size: 3 })
+    );
+    assert_eq!(rt; put(&mut writing, &mut disk, 0, b"abc"), Ok(()));
     assert_eq!(rt; seal(writing, &mut disk), Ok(()));
     assert_eq!(rt;
         write_file(&mut disk, abc, 3, b"abd"),
