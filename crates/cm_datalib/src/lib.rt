@@ -19,6 +19,3 @@ pub use loading::load;
 pub use storing::store;
 pub use syncing::sync;
 pub use walking::next;
-
-#[cfg(test)]
-mod tests;

@@ -29,6 +29,3 @@ pub use laws::{
 };
 pub use memory::MemDisk;
 pub use walk::{Form, next_of_form};
-
-#[cfg(test)]
-mod tests;

@@ -18,6 +18,3 @@ pub use reading::read_at;
 pub use salvaging::salvage;
 pub use walking::next;
 pub use writing::Writing;
-
-#[cfg(test)]
-mod tests;

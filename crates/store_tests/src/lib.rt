@@ -5,3 +5,9 @@
 
 #[cfg(test)]
 mod base;
+#[cfg(test)]
+mod disks;
+#[cfg(test)]
+mod files;
+#[cfg(test)]
+mod manifests;

@@ -2,7 +2,7 @@ use Rattle.std.proofs.Common.{◌≡◌, ◌-◌, ◌≤◌, false, length}
 use Rattle.std.specs.Option.{ForSome}
 use Rattle.cm_disk.specs.Disk.{Files}
 use Rattle.cm_filelib.specs.Writings.{is_spent, IsWriting}
-use Rattle.cm_filelib.proofs.tests.write_file.Given as goal
+use Rattle.store_tests.proofs.files.write_file.Given as goal
 
 abbrev pub invariant-loop-at : goal.invariant-loop-at
 invariant-loop-at g l = record {

@@ -1,6 +1,6 @@
 //! Each call of a disk, on a disk in memory and on real files.
-use crate::{Disk, DiskFault};
 use cm_base::Place;
+use cm_disk::{Disk, DiskFault};
 use std::process::Abort;
 use std::test::Fail;
 

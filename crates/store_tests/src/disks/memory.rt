@@ -1,7 +1,7 @@
 //! A disk in memory: its failures, and what a crash leaves of it.
-use crate::tests::{Step, place_of, put, reads, take, trim, try_each_call};
-use crate::{CrashFault, Disk, DiskFault, MemDisk, at_each_crash};
+use crate::disks::{Step, place_of, put, reads, take, trim, try_each_call};
 use cm_base::Place;
+use cm_disk::{CrashFault, Disk, DiskFault, MemDisk, at_each_crash};
 use std::alloc::Global;
 use std::process::Abort;
 use std::test::Fail;

@@ -1,7 +1,7 @@
 //! Files on a disk in memory: how many pieces they take, each refusal, the walk, and what a stop at each device call leaves.
-use crate::{FileFault, SealFault, erase, next, put, read_at, salvage, seal, start};
 use cm_base::Hash;
 use cm_disk::{Disk, MemDisk};
+use cm_filelib::{FileFault, SealFault, erase, next, put, read_at, salvage, seal, start};
 use std::alloc::Global;
 use std::process::Abort;
 use std::test::Fail;

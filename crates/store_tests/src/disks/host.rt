@@ -1,6 +1,6 @@
 //! The files below a real folder.
-use crate::tests::{place_of, put, reads, trim, try_each_call, try_walk};
-use crate::{Disk, HostDisk};
+use crate::disks::{place_of, put, reads, trim, try_each_call, try_walk};
+use cm_disk::{Disk, HostDisk};
 use std::fs;
 use std::process::Abort;
 use std::test::Fail;
