@@ -1,6 +1,8 @@
 -- A link in memory.
-use Rattle.std.specs.Prelude.{◌≡◌, ℕ, Bool, List, find, Option, None, Some, option_map}
+use Rattle.std.specs.Prelude.{◌≡◌, ◌⊎◌, ◌∷◌, ◌++◌, ℕ, Bool, true, false, List, [], find, Option, None, Some, option_map, Result, IsSome, OnOk, OnErr}
 use Rattle.std.specs.Str.{bytes_eq}
+use Rattle.cm_base.specs.InMemory.{raised}
+use Rattle.cm_base.specs.Listed.{is_listed}
 use Rattle.cm_peer.specs.declared.mem_link.MemLink.{MemLink}
 use Rattle.cm_peer.specs.declared.offers.Want.{Want}
 use Rattle.cm_peer.specs.declared.offers.Cause.TheVariants.{NotCached}
@@ -44,3 +46,13 @@ calls_of link = link.number
 -- how many of them failed
 abbrev pub faults_of : MemLink → ℕ
 faults_of link = link.faults
+
+-- A call takes one number, and counts a fault exactly where it fails. It fails exactly where its number is a listed one, or where
+-- there was no memory to note the source. That comes once at most: from then on it notes none, and wants no memory.
+pub record FailsExactly {T E : Type 0} (old new : MemLink) (source : SourceRow) (result : Result T E) : Type 0 where
+  pub listed : fails_at new ≡ fails_at old
+  pub number : calls_of new ≡ raised (calls_of old)
+  pub ok : OnOk result ((is_listed (fails_at old) (calls_of old) ≡ false) × (faults_of new ≡ faults_of old))
+  pub noted : OnOk result (asked_of new ≡ option_map (λ before. before ++ source ∷ []) (asked_of old))
+  pub err : OnErr result ((is_listed (fails_at old) (calls_of old) ≡ true) ⊎ (IsSome (asked_of old) × (asked_of new ≡ None)))
+  pub counted : OnErr result (faults_of new ≡ raised (faults_of old))

@@ -1,11 +1,11 @@
 //! The calls of a link in memory.
-ghost use Rattle.std.specs.Prelude.{◌≡◌, ◌⊎◌, ◌∷◌, [], Some, None, true, false, find, IfOk, OnOk, OnErr};
-ghost use Rattle.std.specs.Bool.{OnFalse};
+ghost use Rattle.std.specs.Prelude.{◌≡◌, ◌∷◌, ◌++◌, [], Some, None, find, option_map, IfOk, IsSome};
+ghost use Rattle.std.specs.Bool.{OnFalse, OnTrue};
 ghost use Rattle.cm_base.specs.Causes.{HasCause};
 ghost use Rattle.cm_base.specs.InMemory.{raised};
 ghost use Rattle.cm_base.specs.Listed.{is_listed};
 ghost use Rattle.cm_peer.specs.Links.{IsSameTest, WasAsked};
-ghost use Rattle.cm_peer.specs.MemLinks.{is_named, answer_named, answers_of, gives_answer, asked_of, fails_at, calls_of, faults_of};
+ghost use Rattle.cm_peer.specs.MemLinks.{is_named, answer_named, answers_of, gives_answer, asked_of, fails_at, calls_of, faults_of, FailsExactly};
 
 use crate::{Answer, Cause, Link, LinkFault, MemLink, SourceRow, Want};
 use cm_base::{ServerName, is_among};
@@ -66,8 +66,8 @@ impl MemLink {
 
     /// Notes which source it was asked for. False where there was no memory to.
     fn note(&mut self, source: SourceRow) -> bool
-        ensures noted { WasAsked (asked_of self.old) (asked_of self.new) (source ∷ []) }
-        ensures short { OnFalse result (asked_of self.new ≡ None) }
+        ensures noted { OnTrue result (asked_of self.new ≡ option_map (λ before. before ++ source ∷ []) (asked_of self.old)) }
+        ensures short { OnFalse result (IsSome (asked_of self.old) × (asked_of self.new ≡ None)) }
         ensures after { self.new ≡ record self.old { asked = self.new.asked } }
     {
         if let Some(asked) = &mut self.asked {
@@ -87,16 +87,14 @@ impl Link for MemLink {
 
     ghost faults = { faults_of };
 
-    /// Fails at a listed call, and where there was no memory to note which source it was asked for.
+    /// Fails exactly at a listed call, or where there was no memory to note which source it was asked for. That comes once at
+    /// most: from then on it notes none.
     fn offer(&mut self, source: &SourceRow, want: &Want) -> Result<Answer, LinkFault>
         ensures answer { IfOk result (gives_answer self.old source.now want.now) }
         ensures same { IsSameTest (gives_answer self.old) (gives_answer self.new) }
         ensures asks { WasAsked (asked_of self.old) (asked_of self.new) (source.now ∷ []) }
         ensures cause { HasCause (faults_of self.old) (faults_of self.new) result }
-        ensures listed { OnOk result (is_listed (fails_at self.old) (calls_of self.old) ≡ false) }
-        ensures failed { OnErr result ((is_listed (fails_at self.old) (calls_of self.old) ≡ true) ⊎ (asked_of self.new ≡ None)) }
-        ensures fail { fails_at self.new ≡ fails_at self.old }
-        ensures calls { calls_of self.new ≡ raised (calls_of self.old) }
+        ensures exact { FailsExactly self.old self.new source.now result }
     {
         let noted = self.note(*source);
         if self.is_listed() || !noted {

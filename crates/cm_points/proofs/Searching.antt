@@ -2,6 +2,7 @@
 use Rattle.std.proofs.Common.{◌≡◌, ℕ, suc, zero, ◌<◌, ◌≤◌, Bool, true, false, ◌&&◌, List, [], ◌∷◌, length, get_or, refl, ap, sym, ◌∙◌, arith, Result, Ok, Err, is_ok, ◌⊎◌, inl, inr}
 use Rattle.std.specs.List.{AllWithin, list_any}
 use Rattle.std.specs.List.Sorted.{IsBinarySearchResult, IsSearchInRange, IsSorted}
+use Rattle.std.specs.Prelude.{◌==◌}
 use Rattle.std.specs.Str.{bytes_eq}
 use Rattle.std.specs.Cmp.{IsTotalOrder, unsigned_ties}
 use Rattle.std.specs.Cmp.Lexicographic.{slice_cmp}
@@ -16,21 +17,30 @@ use Rattle.cm_points.specs.Installs.{InstalledRow, is_row, row_cmp}
 
 -- the order of rows is one
 pub row_cmp_total : IsTotalOrder row_cmp
-row_cmp_total = then_total (then_total (on_total (λ (row : InstalledRow). row.0) nat_list_cmp_total) (on_total (λ (row : InstalledRow). row.1) nat_list_cmp_total)) (on_total (λ (row : InstalledRow). row.2) nat_cmp_total)
+row_cmp_total = then_total (then_total (on_total (λ (row : InstalledRow). row.1) nat_list_cmp_total) (on_total (λ (row : InstalledRow). row.2) nat_cmp_total)) (on_total (λ (row : InstalledRow). row.0) nat_list_cmp_total)
 
 is_eq-then : (a b : Ordering) → is_eq (ordering_then a b) ≡ is_eq a && is_eq b
 is_eq-then Less b = refl
 is_eq-then Equal b = refl
 is_eq-then Greater b = refl
 
+point_first : (a b c : Bool) → ((a && b) && c) ≡ ((c && a) && b)
+point_first true true true = refl
+point_first true true false = refl
+point_first true false true = refl
+point_first true false false = refl
+point_first false b true = refl
+point_first false b false = refl
+
 -- a row is that of a point, a package and a version where it is equal to it in the order
 pub is_row-row_cmp : (point id : List ℕ) (version : ℕ) (row : InstalledRow) → is_eq (row_cmp row (point, id, version)) ≡ is_row point id version row
 is_row-row_cmp point id version row =
-    is_eq-then (ordering_then (slice_cmp nat_cmp row.0 point) (slice_cmp nat_cmp row.1 id)) (nat_cmp row.2 version)
-    ∙ ap (λ b. b && is_eq (nat_cmp row.2 version)) (is_eq-then (slice_cmp nat_cmp row.0 point) (slice_cmp nat_cmp row.1 id))
-    ∙ ap (λ b. (b && is_eq (slice_cmp nat_cmp row.1 id)) && is_eq (nat_cmp row.2 version)) (is_eq-slice_cmp row.0 point)
-    ∙ ap (λ b. (bytes_eq row.0 point && b) && is_eq (nat_cmp row.2 version)) (is_eq-slice_cmp row.1 id)
-    ∙ ap (λ b. (bytes_eq row.0 point && bytes_eq row.1 id) && b) (sym (unsigned_ties row.2 version))
+    is_eq-then (ordering_then (slice_cmp nat_cmp row.1 id) (nat_cmp row.2 version)) (slice_cmp nat_cmp row.0 point)
+    ∙ (ap (λ b. b && is_eq (slice_cmp nat_cmp row.0 point)) (is_eq-then (slice_cmp nat_cmp row.1 id) (nat_cmp row.2 version))
+    ∙ (ap (λ b. (is_eq (slice_cmp nat_cmp row.1 id) && is_eq (nat_cmp row.2 version)) && b) (is_eq-slice_cmp row.0 point)
+    ∙ (ap (λ b. (b && is_eq (nat_cmp row.2 version)) && bytes_eq row.0 point) (is_eq-slice_cmp row.1 id)
+    ∙ (ap (λ b. (bytes_eq row.1 id && b) && bytes_eq row.0 point) (sym (unsigned_ties row.2 version))
+    ∙ point_first (bytes_eq row.1 id) (row.2 == version) (bytes_eq row.0 point)))))
 
 -- a test that one row passes
 any_at : (p : InstalledRow → Bool) (rows : List InstalledRow) (at : ℕ) → at < length rows → ((row : InstalledRow) → p (get_or rows at row) ≡ true) → list_any p rows ≡ true

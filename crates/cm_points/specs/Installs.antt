@@ -22,6 +22,6 @@ is_installed rows point id version = list_any (is_row point id version) rows
 abbrev pub AreSameRows : List InstalledRow → List InstalledRow → Type 0
 AreSameRows rows others = (point id : List ℕ) (version : ℕ) → is_installed others point id version ≡ is_installed rows point id version
 
--- rows stand in order by point, by package, then by version
+-- rows stand in order by package, by version, then by point
 abbrev pub row_cmp : InstalledRow → InstalledRow → Ordering
-row_cmp a b = ordering_then (ordering_then (slice_cmp nat_cmp a.0 b.0) (slice_cmp nat_cmp a.1 b.1)) (nat_cmp a.2 b.2)
+row_cmp a b = ordering_then (ordering_then (slice_cmp nat_cmp a.1 b.1) (nat_cmp a.2 b.2)) (slice_cmp nat_cmp a.0 b.0)

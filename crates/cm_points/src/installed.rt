@@ -7,7 +7,8 @@ use cm_base::{Memory, PackageId, ServerName, Version};
 use std::alloc::Global;
 use std::marker::Model;
 
-/// Which versions of packages are installed on which points, in order. Contracts see the list of these rows.
+/// Which versions of packages are installed on which points, by package, version and point. Contracts see the list of these
+/// rows.
 #[derive(Drop)]
 pub struct Installed {
     rows: Vec<(ServerName, PackageId, Version)>,
@@ -31,11 +32,11 @@ fn in_order(rows: Vec<(ServerName, PackageId, Version)>) -> Vec<(ServerName, Pac
     ensures sorted { IsSorted row_cmp result.items }
 {
     let mut rows = rows;
-    rows.sort_unstable();
+    rows.sort_unstable_by_key(|row| (row.1, row.2, row.0));
     rows
 }
 
-/// Whether a row is among rows in order.
+/// Whether a row is among rows in order, looked for by halves.
 fn has_row(
     rows: &[(ServerName, PackageId, Version)],
     row: &(ServerName, PackageId, Version),
@@ -43,7 +44,9 @@ fn has_row(
     requires { IsSorted row_cmp rows.now }
     ensures { result ≡ is_installed rows.now row.now.0 row.now.1 row.now.2 }
 {
-    rows.binary_search(row).is_ok()
+    let key = (row.1, row.2, row.0);
+    rows.binary_search_by_key(&key, |other| (other.1, other.2, other.0))
+        .is_ok()
 }
 
 impl Installed {
