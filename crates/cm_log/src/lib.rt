@@ -22,6 +22,3 @@ pub use making::create;
 pub use position::LogReader;
 pub use shelf::Shelf;
 pub use state::Log;
-
-#[cfg(test)]
-mod tests;

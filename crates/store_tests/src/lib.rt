@@ -10,4 +10,6 @@ mod disks;
 #[cfg(test)]
 mod files;
 #[cfg(test)]
+mod logs;
+#[cfg(test)]
 mod manifests;

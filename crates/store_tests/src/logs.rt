@@ -3,12 +3,42 @@ ghost use Rattle.std.specs.Prelude.{◌≡◌, true, IfOk};
 ghost use Rattle.std.specs.Option.{ForSome};
 ghost use Rattle.cm_log.specs.Settled.{is_settled, IsSettled};
 
-use crate::shelf::{Side, log_at, ready_at};
-use crate::{AppendFault, CreateFault, Log, LogFault, LogReader, Shelf, create};
 use cm_base::Place;
 use cm_disk::{Disk, MemDisk};
+use cm_log::{AppendFault, CreateFault, Log, LogFault, LogReader, Shelf, create};
 use std::alloc::Global;
 use std::test::Fail;
+
+// One of the two logs of a shelf.
+#[derive(Clone, Copy)]
+enum Side {
+    First,
+    Second,
+}
+
+fn ready_at(shelf: Shelf) -> Place {
+    let place = match shelf {
+        Shelf::PkgLib => Place::read(b"PkgLib/ready"),
+        Shelf::Site => Place::read(b"Site/ready"),
+    };
+    match place {
+        Some(place) => place,
+        None => unreachable!(),
+    }
+}
+
+fn log_at(shelf: Shelf, side: Side) -> Place {
+    let place = match (shelf, side) {
+        (Shelf::PkgLib, Side::First) => Place::read(b"PkgLib/log.0"),
+        (Shelf::PkgLib, Side::Second) => Place::read(b"PkgLib/log.1"),
+        (Shelf::Site, Side::First) => Place::read(b"Site/log.0"),
+        (Shelf::Site, Side::Second) => Place::read(b"Site/log.1"),
+    };
+    match place {
+        Some(place) => place,
+        None => unreachable!(),
+    }
+}
 
 // The log behind all its records.
 fn last<D: Disk>(disk: &mut D, shelf: Shelf) -> Result<Log, LogFault>

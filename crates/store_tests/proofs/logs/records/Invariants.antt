@@ -2,7 +2,7 @@ use Rattle.std.proofs.Common.{◌≤◌}
 use Rattle.std.specs.Option.{ForSome}
 use Rattle.cm_disk.specs.Disk.{Files}
 use Rattle.cm_log.specs.Settled.{IsReading}
-use Rattle.cm_log.proofs.tests.records.Given as goal
+use Rattle.store_tests.proofs.logs.records.Given as goal
 
 abbrev pub invariant-loop-body : goal.invariant-loop-body
 invariant-loop-body g l = record {

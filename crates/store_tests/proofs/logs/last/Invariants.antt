@@ -1,7 +1,7 @@
 use Rattle.std.specs.Option.{ForSome}
 use Rattle.cm_disk.specs.Disk.{Files}
 use Rattle.cm_log.specs.Settled.{IsReading}
-use Rattle.cm_log.proofs.tests.last.Given as goal
+use Rattle.store_tests.proofs.logs.last.Given as goal
 
 abbrev pub invariant-loop : goal.invariant-loop
 invariant-loop g l = ForSome (g.D.Disk.reads l.disk) (λ (files : Files). IsReading files (g.D.Disk.may_leave l.disk) l.reader)
