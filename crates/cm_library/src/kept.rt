@@ -25,7 +25,7 @@ impl Model for Contents {
 
     ghost Value = { State };
 
-    ghost view = { λ c. state_with (manifest_in_map c.manifests) c.rows };
+    ghost view = { λ c. state_with (manifest_in_map c.manifests) c.rows.rows };
 
-    ghost invariant = { λ c. AreTold (state_with (manifest_in_map c.manifests) c.rows) c.versions.items c.jobs.items (vec_capacity c.versions) };
+    ghost invariant = { λ c. AreTold (state_with (manifest_in_map c.manifests) c.rows.rows) c.versions.items c.jobs.items (vec_capacity c.versions) };
 }

@@ -43,7 +43,7 @@ fn keep_manifest(manifests: &mut Manifests, row: &PkgRow, manifest: Manifest) ->
 impl Contents {
     /// What rows and their manifests make.
     pub(crate) fn of(alloc: Global, rows: Rows, manifests: Manifests) -> Result<Contents, Memory>
-        ensures { IfOk result (λ contents. contents ≡ state_with (manifest_in_map manifests) rows) }
+        ensures { IfOk result (λ contents. contents ≡ state_with (manifest_in_map manifests) rows.rows) }
     {
         let versions = versions_told(alloc, rows.versions(), &manifests, rows.jobs().len())?;
         let jobs = jobs_told(alloc, rows.jobs(), &manifests)?;

@@ -92,7 +92,7 @@ pub(crate) fn load_all<D: Disk>(
     disk: &mut D,
     rows: &Rows,
 ) -> Result<Option<Manifests>, OpenFault>
-    ensures loads { IfOk result (λ found. ForSome (D.reads disk.old) (λ files. Loads files rows.now found)) }
+    ensures loads { IfOk result (λ found. ForSome (D.reads disk.old) (λ files. Loads files rows.now.rows found)) }
     ensures fault { IfErr result (λ fault. (fault ≡ OpenFault.Memory) ⊎ (fault ≡ OpenFault.Disk)) }
     ensures same { D.reads disk.new ≡ D.reads disk.old }
     ensures stop { LeavesNoMore (D.may_leave disk.old) (D.may_leave disk.new) }

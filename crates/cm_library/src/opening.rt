@@ -20,7 +20,7 @@ const MOST: u64 = (1 << 40) - 1;
 
 // Whether the closed gate leaves the room that the ends of versions and jobs may want.
 fn leaves_room(end: u64, rows: &Rows) -> bool
-    ensures { result ≡ has_room end rows.now }
+    ensures { result ≡ has_room end rows.now.rows }
 {
     let versions = rows.versions().len() as u64;
     let jobs = rows.jobs().len() as u64;

@@ -35,11 +35,11 @@ fn is_known(change: &Change) -> bool
 
 // Makes a change that the rows take.
 fn apply_change(rows: &mut Rows, change: &Change) -> Result<(), OpenFault>
-    requires fit { AreFit rows.old }
+    requires fit { AreFit rows.old.rows }
     requires names { NamesVersion change.now }
-    requires free { fault_of rows.old change.now ≡ None }
-    ensures fit { AreFit rows.new }
-    ensures ok { OnOk result (rows.new ≡ after change.now rows.old) }
+    requires free { fault_of rows.old.rows change.now ≡ None }
+    ensures fit { AreFit rows.new.rows }
+    ensures ok { OnOk result (rows.new.rows ≡ after change.now rows.old.rows) }
     ensures fault { IfErr result (λ fault. fault ≡ OpenFault.Memory) }
 {
     // Its clause says that the rows are valid.
@@ -52,10 +52,10 @@ fn apply_change(rows: &mut Rows, change: &Change) -> Result<(), OpenFault>
 
 // Makes the change that a record says. False where it says none, or the rows refuse it.
 fn take_body(rows: &mut Rows, body: &[u8]) -> Result<bool, OpenFault>
-    requires { AreFit rows.old }
-    ensures fit { AreFit rows.new }
-    ensures taken { result ≡ Ok true → rows_after_body body.now rows.old ≡ Some rows.new }
-    ensures refused { result ≡ Ok false → rows_after_body body.now rows.old ≡ None }
+    requires { AreFit rows.old.rows }
+    ensures fit { AreFit rows.new.rows }
+    ensures taken { result ≡ Ok true → rows_after_body body.now rows.old.rows ≡ Some rows.new.rows }
+    ensures refused { result ≡ Ok false → rows_after_body body.now rows.old.rows ≡ None }
     ensures fault { IfErr result (λ fault. fault ≡ OpenFault.Memory) }
 {
     let change = match Change::decode(body) {
@@ -102,12 +102,12 @@ fn take_record<D: Disk>(
     rows: &mut Rows,
 ) -> Result<bool, OpenFault>
     requires reading { ForSome (D.reads disk.old) (λ files. IsReading files (D.may_leave disk.old) reader.old) }
-    requires fit { AreFit rows.old }
+    requires fit { AreFit rows.old.rows }
     ensures reading { ForSome (D.reads disk.new) (λ files. IsReading files (D.may_leave disk.new) reader.new) }
-    ensures fit { AreFit rows.new }
-    ensures goes_on { OnOk result (ForSome (D.reads disk.old) (λ files. library_from files (reader_place reader.old) (Some rows.old) (rest_of files reader.old) ≡ library_from files (reader_place reader.old) (Some rows.new) (rest_of files reader.new))) }
+    ensures fit { AreFit rows.new.rows }
+    ensures goes_on { OnOk result (ForSome (D.reads disk.old) (λ files. library_from files (reader_place reader.old) (Some rows.old.rows) (rest_of files reader.old) ≡ library_from files (reader_place reader.old) (Some rows.new.rows) (rest_of files reader.new))) }
     ensures ended { result ≡ Ok false → has_ended reader.new ≡ true }
-    ensures unreadable { (place : List ℕ) (at : ℕ) → IsErrOf result (OpenFault.Unreadable place at) → ForSome (D.reads disk.old) (λ files. library_from files (reader_place reader.old) (Some rows.old) (rest_of files reader.old) ≡ Unreadable place at) }
+    ensures unreadable { (place : List ℕ) (at : ℕ) → IsErrOf result (OpenFault.Unreadable place at) → ForSome (D.reads disk.old) (λ files. library_from files (reader_place reader.old) (Some rows.old.rows) (rest_of files reader.old) ≡ Unreadable place at) }
     ensures library { IsErrOf result OpenFault.NoLibrary → ⊥ }
     ensures shelf { reader_shelf reader.new ≡ reader_shelf reader.old }
     ensures place { reader_place reader.new ≡ reader_place reader.old }
@@ -136,8 +136,8 @@ pub(crate) fn read_rows<D: Disk>(
 ) -> Result<Rows, OpenFault>
     requires { ForSome (D.reads disk.old) (λ files. IsReading files (D.may_leave disk.old) reader.old) }
     ensures reading { ForSome (D.reads disk.new) (λ files. IsReading files (D.may_leave disk.new) reader.new) }
-    ensures fit { IfOk result (λ rows. AreFit rows) }
-    ensures rows { IfOk result (λ rows. ForSome (D.reads disk.old) (λ files. library_from files (reader_place reader.old) (Some no_rows) (rest_of files reader.old) ≡ library_from files (reader_place reader.old) (Some rows) (rest_of files reader.new))) }
+    ensures fit { IfOk result (λ rows. AreFit rows.rows) }
+    ensures rows { IfOk result (λ rows. ForSome (D.reads disk.old) (λ files. library_from files (reader_place reader.old) (Some no_rows) (rest_of files reader.old) ≡ library_from files (reader_place reader.old) (Some rows.rows) (rest_of files reader.new))) }
     ensures ended { OnOk result (has_ended reader.new ≡ true) }
     ensures unreadable { (place : List ℕ) (at : ℕ) → IsErrOf result (OpenFault.Unreadable place at) → ForSome (D.reads disk.old) (λ files. library_from files (reader_place reader.old) (Some no_rows) (rest_of files reader.old) ≡ Unreadable place at) }
     ensures library { IsErrOf result OpenFault.NoLibrary → ⊥ }

@@ -12,4 +12,4 @@ returns-in-Ok-true-load_jobs-clause-loads g c x told =
     let j = c.in-Ok-true-load_jobs.ensures.kept x (c.load_versions.ensures.same ∙ told) in
     let versions = subst (λ (rows : List PkgRow). AllByRecursion (IsKept x c.load_versions.new.manifests) rows) c.versions.ensures.value (v.yes c.in-Ok-true.field-0-test) in
     let jobs = subst (λ (jobs : List (ℕ × PkgRow)). AllByRecursion (λ (job : ℕ × PkgRow). IsKept x c.load_jobs.new.manifests job.1) jobs) c.jobs.ensures.value (j.yes c.in-Ok-true-load_jobs.field-0-test) in
-    loads_all x c.args.rows.now c.load_jobs.new.manifests (All-map (IsKept x c.load_versions.new.manifests) (IsKept x c.load_jobs.new.manifests) j.stays c.args.rows.now.versions versions) jobs
+    loads_all x c.args.rows.now.rows c.load_jobs.new.manifests (All-map (IsKept x c.load_versions.new.manifests) (IsKept x c.load_jobs.new.manifests) j.stays c.args.rows.now.rows.versions versions) jobs

@@ -8,6 +8,7 @@ use Rattle.cm_library.specs.declared.fault.OpenFault.{OpenFault}
 use Rattle.cm_library.specs.declared.fault.OpenFault.TheVariants.{Unreadable}
 use Rattle.cm_log.specs.Settled.{end_of}
 use Rattle.cm_log.proofs.Done.{settled_when_done}
+use Rattle.cm_pkglib.specs.InMemory.{RowsInMemory}
 use Rattle.cm_pkglib.specs.Rows.{Rows}
 use Rattle.cm_library.specs.State.{State, rows_of}
 use Rattle.cm_library.specs.Look.{Unreadable as UnreadableLibrary, has_room, look}
@@ -28,12 +29,12 @@ pub returns-in-Err-read_rows-clause-unreadable : goal.returns-in-Err-read_rows-c
 returns-in-Err-read_rows-clause-unreadable g c place at is x told =
     let fault = err_is {T = Log × Contents} c.in-Err-read_rows.fault (Unreadable place at) is in
     look_broken x c.in-Ok.reader (UnreadableLibrary place at) (c.in-Ok.ensures.live x told)
-    (c.in-Err-read_rows.ensures.unreadable place at (ap (λ (f : OpenFault). let r : Result Rows OpenFault = Err f in r) fault) x (c.open.ensures.same ∙ told))
+    (c.in-Err-read_rows.ensures.unreadable place at (ap (λ (f : OpenFault). let r : Result RowsInMemory OpenFault = Err f in r) fault) x (c.open.ensures.same ∙ told))
 
 pub returns-then-not-leaves_room-clause-unreadable : goal.returns-then-not-leaves_room-clause-unreadable
 returns-then-not-leaves_room-clause-unreadable g c place at is x told =
     let d = g.D.Disk in
-    let rows = c.in-Ok-read_rows.rows in
+    let rows = c.in-Ok-read_rows.rows.rows in
     let t = c.open.ensures.same ∙ told in
     named {T = _} c.unreadable.result place at (look x) c.unreadable.ensures is
     (no_room x c.end.result rows (sym c.leaves_room.ensures ∙ c.if-not-leaves_room.true)
@@ -42,7 +43,7 @@ returns-then-not-leaves_room-clause-unreadable g c place at is x told =
 pub returns-in-Ok-None-clause-unreadable : goal.returns-in-Ok-None-clause-unreadable
 returns-in-Ok-None-clause-unreadable g c place at is x told =
     let d = g.D.Disk in
-    let rows = c.in-Ok-read_rows.rows in
+    let rows = c.in-Ok-read_rows.rows.rows in
     let t = c.open.ensures.same ∙ told in
     named {T = _} c.unreadable-in-Ok-None.result place at (look x) c.unreadable-in-Ok-None.ensures is
     (none_loaded x c.end.result rows ((rw c.in-Ok-None.field-0-is at c.in-Ok-None.ensures.loads) x (c.read_rows.ensures.same ∙ t))
@@ -50,7 +51,7 @@ returns-in-Ok-None-clause-unreadable g c place at is x told =
 
 pub returns-in-Ok-of-clause-ready : goal.returns-in-Ok-of-clause-ready
 returns-in-Ok-of-clause-ready g c =
-    let rows = c.in-Ok-read_rows.rows in
+    let rows = c.in-Ok-read_rows.rows.rows in
     let back : rows_of c.in-Ok-of.contents ≡ rows = ap (λ (s : State). rows_of s) c.in-Ok-of.ensures ∙ rows_back (manifest_in_map c.in-Ok-Some.manifests) rows in
     record {
       idle = c.done-log.ensures.idle;
@@ -63,7 +64,7 @@ returns-in-Ok-of-clause-ready g c =
 pub returns-in-Ok-of-clause-stands : goal.returns-in-Ok-of-clause-stands
 returns-in-Ok-of-clause-stands g c x told =
     let d = g.D.Disk in
-    let rows = c.in-Ok-read_rows.rows in
+    let rows = c.in-Ok-read_rows.rows.rows in
     let t2 = sym c.load_all.ensures.same ∙ told in
     let t1 = sym c.read_rows.ensures.same ∙ t2 in
     let t0 = sym c.open.ensures.same ∙ t1 in

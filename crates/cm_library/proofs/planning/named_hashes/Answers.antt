@@ -13,7 +13,7 @@ use Rattle.cm_library.proofs.planning.named_hashes.Goals as goal
 pub returns : goal.returns
 returns c =
     let f = manifest_in_map c.contents.inside.manifests in
-    let rows = c.contents.inside.rows.versions in
+    let rows = c.contents.inside.rows.rows.versions in
     if_ok {Q = λ (set : BTreeSet Hash). (q : Hash) → contains hash_cmp set q ≡ is_named q.0 c.args.contents.now} (λ (set : BTreeSet Hash) (h : (q : Hash) → contains hash_cmp set q ≡ list_any (λ (row : PkgRow). has_hash q.0 (f row.package row.version)) c.versions.result.now) (q : Hash).
     h q
     ∙ ap (λ (rs : List PkgRow). list_any (λ (row : PkgRow). has_hash q.0 (f row.package row.version)) rs) c.versions.ensures.value

@@ -10,8 +10,8 @@ use Rattle.cm_library.proofs.records.read_rows.Given as goal
 abbrev pub invariant-loop-record : goal.invariant-loop-record
 invariant-loop-record g l = record {
   reading : ForSome (g.D.Disk.reads l.disk) (λ files. IsReading files (g.D.Disk.may_leave l.disk) l.reader);
-  fit : AreFit l.rows;
-  goes_on : ForSome (g.D.Disk.reads l.fn.disk) (λ files. library_from files (reader_place l.fn.reader) (Some no_rows) (rest_of files l.fn.reader) ≡ library_from files (reader_place l.fn.reader) (Some l.rows) (rest_of files l.reader));
+  fit : AreFit l.rows.rows;
+  goes_on : ForSome (g.D.Disk.reads l.fn.disk) (λ files. library_from files (reader_place l.fn.reader) (Some no_rows) (rest_of files l.fn.reader) ≡ library_from files (reader_place l.fn.reader) (Some l.rows.rows) (rest_of files l.reader));
   shelf : reader_shelf l.reader ≡ reader_shelf l.fn.reader;
   place : reader_place l.reader ≡ reader_place l.fn.reader;
   same : g.D.Disk.reads l.disk ≡ g.D.Disk.reads l.fn.disk;

@@ -10,7 +10,7 @@ use Rattle.cm_library.proofs.records.take_record.Goals as goal
 pub returns-in-Ok-None-clause-goes_on : goal.returns-in-Ok-None-clause-goes_on
 returns-in-Ok-None-clause-goes_on g c x told =
     let d = g.D.Disk in
-    ap (λ (r : Reading). library_from x (reader_place c.args.reader.now) (Some c.args.rows.now) r)
+    ap (λ (r : Reading). library_from x (reader_place c.args.reader.now) (Some c.args.rows.now.rows) r)
     (sym (closes x (d.may_leave c.args.disk.now) (d.may_leave c.next.new.disk) c.args.reader.now c.next.new.self (c.requires.reading x told) (c.next.ensures.reading x (c.next.ensures.same ∙ told)) c.next.ensures.shelf
     ((rw c.in-Ok-None.field-0-is at c.in-Ok-None.ensures.none) x told) (rw c.in-Ok-None.field-0-is at c.in-Ok-None.ensures.ended)))
 
@@ -18,5 +18,5 @@ pub returns-in-Ok-false-clause-unreadable : goal.returns-in-Ok-false-clause-unre
 returns-in-Ok-false-clause-unreadable g c place at is x told =
     let some = (rw c.in-Ok-Some.field-0-is at c.in-Ok-Some.ensures.some).1 x told in
     let none = c.in-Ok-false.ensures.refused (ap (λ (b : Bool). let r : Result Bool OpenFault = Ok b in r) c.in-Ok-false.field-0-test) in
-    named {T = Bool} c.unreadable.result place at (library_from x (reader_place c.args.reader.now) (Some c.args.rows.now) (rest_of x c.args.reader.now)) c.unreadable.ensures is
-    (refuses x (reader_place c.args.reader.now) c.args.rows.now (reader_at c.args.reader.now) (take c.in-Ok-Some.count c.next.new.buf) (rest_of x c.args.reader.now) (rest_of x c.next.new.self) some none)
+    named {T = Bool} c.unreadable.result place at (library_from x (reader_place c.args.reader.now) (Some c.args.rows.now.rows) (rest_of x c.args.reader.now)) c.unreadable.ensures is
+    (refuses x (reader_place c.args.reader.now) c.args.rows.now.rows (reader_at c.args.reader.now) (take c.in-Ok-Some.count c.next.new.buf) (rest_of x c.args.reader.now) (rest_of x c.next.new.self) some none)

@@ -8,5 +8,5 @@ use Rattle.cm_library.proofs.kept.Contents.check.Goals as goal
 pub returns : goal.returns
 returns c =
     c.check.ensures
-    ∙ ap (λ (r : Rows). fault_of r c.args.change.now) (sym (rows_back (manifest_in_map c.self.inside.manifests) c.self.inside.rows))
+    ∙ ap (λ (r : Rows). fault_of r c.args.change.now) (sym (rows_back (manifest_in_map c.self.inside.manifests) c.self.inside.rows.rows))
     ∙ ap (λ (s : State). fault_of (rows_of s) c.args.change.now) c.self.view_is

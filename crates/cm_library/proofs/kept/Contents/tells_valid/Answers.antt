@@ -7,4 +7,4 @@ use Rattle.cm_library.proofs.kept.Contents.tells_valid.Goals as goal
 
 pub returns : goal.returns
 returns c =
-    subst AreValid (sym (rows_back (manifest_in_map c.self.inside.manifests) c.self.inside.rows) ∙ ap (λ (s : State). rows_of s) c.self.view_is) c.versions-rising.ensures.valid
+    subst AreValid (sym (rows_back (manifest_in_map c.self.inside.manifests) c.self.inside.rows.rows) ∙ ap (λ (s : State). rows_of s) c.self.view_is) c.versions-rising.ensures.valid
