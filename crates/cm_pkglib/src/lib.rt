@@ -11,8 +11,6 @@ mod moves;
 mod row;
 mod rows;
 mod search;
-#[cfg(test)]
-mod tests;
 
 pub use change::Change;
 pub use counts::Counts;

@@ -34,6 +34,3 @@ pub use raw_path::RawPath;
 pub use scan_fault::ScanFault;
 pub use scanning::scan;
 pub use tree_fault::TreeFault;
-
-#[cfg(test)]
-mod tests;

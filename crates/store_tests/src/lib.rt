@@ -13,3 +13,7 @@ mod files;
 mod logs;
 #[cfg(test)]
 mod manifests;
+#[cfg(test)]
+mod rows;
+#[cfg(test)]
+mod trees;

@@ -1,8 +1,8 @@
 //! The worked example of a library's rows, and records of one wrong byte.
 ghost use Rattle.std.specs.Prelude.{◌<◌};
 
-use crate::{Change, Counts, PkgRow, RowFault, Rows};
 use cm_base::{Hash, JobId, Memory, PackageId, Version};
+use cm_pkglib::{Change, Counts, PkgRow, RowFault, Rows};
 use cm_tree::Manifest;
 use std::alloc::Global;
 use std::test::Fail;

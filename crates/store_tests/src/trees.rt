@@ -1,6 +1,10 @@
-use super::*;
+//! Manifests and folders by values from outside.
 use cm_base::Hash;
-use std::test::*;
+use cm_tree::{
+    FilePath, Folder, HostFolder, Manifest, MemFolder, ScanFault, TreeFault, gather, scan,
+};
+use std::process::Abort;
+use std::test::Fail;
 
 const EMPTY: &[u8] = b"e3b0c44298fc1c149afbf4c8996fb92427ae41e4649b934ca495991b7852b855";
 
