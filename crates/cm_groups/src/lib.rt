@@ -15,8 +15,6 @@ mod names;
 mod options;
 mod reach;
 mod site_code;
-#[cfg(test)]
-mod tests;
 
 pub use fallback::Fallback;
 pub use fault::GroupsFault;

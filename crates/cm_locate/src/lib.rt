@@ -12,10 +12,6 @@ mod names;
 mod near;
 mod ranking;
 mod rows;
-#[cfg(test)]
-mod tests;
-#[cfg(test)]
-mod tests_at_limits;
 
 pub use ask::Ask;
 pub use laws::{

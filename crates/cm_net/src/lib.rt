@@ -25,8 +25,6 @@ mod six_groups;
 mod six_reader;
 mod span;
 mod steps;
-#[cfg(test)]
-mod tests;
 mod turns;
 
 pub use address::Address;

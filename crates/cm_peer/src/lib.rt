@@ -9,8 +9,6 @@ mod mem_link_calls;
 mod offers;
 mod peer;
 mod sources;
-#[cfg(test)]
-mod tests;
 mod walking;
 
 pub use link::{Link, LinkFault};

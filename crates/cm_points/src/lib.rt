@@ -5,8 +5,6 @@ mod installed;
 mod point;
 mod pulling;
 mod retrying;
-#[cfg(test)]
-mod tests;
 
 pub use installed::Installed;
 pub use point::{Point, PointGroup, PullSource};

@@ -15,8 +15,6 @@ mod second_pass;
 mod servers;
 mod stop;
 mod tables;
-#[cfg(test)]
-mod tests;
 mod topology;
 mod topology_text;
 mod trouble;

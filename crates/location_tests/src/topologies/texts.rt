@@ -1,8 +1,8 @@
 //! Texts that are no TOML, the code, keys that are unknown, and arrays that are absent.
 
 use super::base::{fault, fault_of};
-use crate::{TopoFault, read_topology};
 use cm_net::Address;
+use cm_topo::{TopoFault, read_topology};
 use std::test::Fail;
 
 /// Texts that the grammar of TOML refuses.

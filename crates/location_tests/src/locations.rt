@@ -3,9 +3,9 @@ ghost use Rattle.std.specs.Prelude.{◌≡◌, ◌≤◌, All, IfOk};
 ghost use Rattle.cm_net.specs.Boundaries.{IsSound};
 ghost use Rattle.cm_locate.specs.Asks.{IsPrefix};
 
-use crate::{Ask, locate};
 use cm_base::{Hash, Label, List, PackageId, ServerName, Version};
 use cm_groups::{Fallback, GroupText, Groups, Options, SiteCode};
+use cm_locate::{Ask, locate};
 use cm_net::{Address, Boundary, SiteName};
 use cm_peer::{Cached, Kind, Peer, PeerState, SourceRow};
 use cm_points::{Installed, Point};

@@ -1,6 +1,8 @@
 //! The answers of peers as a table, and walks over a link in memory.
-use crate::{Answer, Cached, Cause, Kind, MemLink, PeerState, Refused, SourceRow, Want, Why, walk};
 use cm_base::{Hash, List, PackageId, ServerName, Version};
+use cm_peer::{
+    Answer, Cached, Cause, Kind, MemLink, PeerState, Refused, SourceRow, Want, Why, walk,
+};
 use std::test::Fail;
 
 const WANTED: Hash = Hash([7; 32]);

@@ -1,10 +1,10 @@
 //! The example topology, value by value.
 
-use crate::{Topology, read_topology};
 use cm_base::{List, ServerName};
 use cm_groups::Options;
 use cm_net::{Address, SiteName};
 use cm_points::PullSource;
+use cm_topo::{Topology, read_topology};
 use std::alloc::Global;
 use std::test::Fail;
 

@@ -1,6 +1,6 @@
 //! What is installed, the choice of a source, and tries.
-use crate::{Installed, PullSource, pull_choice, retry};
 use cm_base::{PackageId, ServerName, Version};
+use cm_points::{Installed, PullSource, pull_choice, retry};
 use std::test::Fail;
 
 fn name(text: &str) -> Result<ServerName, Fail> {

@@ -1,6 +1,6 @@
 //! What the tests share.
 
-use crate::{TopoFault, read_topology};
+use cm_topo::{TopoFault, read_topology};
 use std::alloc::Global;
 use std::process::Abort;
 use std::test::Fail;

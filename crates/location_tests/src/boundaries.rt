@@ -2,8 +2,8 @@
 ghost use Rattle.std.specs.Prelude.{◌≡◌, ◌+◌, ◌<◌, ◌≤◌};
 ghost use Rattle.cm_net.specs.Boundaries.{is_of_family, is_site, rows_of};
 
-use crate::{Address, Boundary, Index, NetFault, SiteName, Steps, inside};
 use arrayvec::ArrayVec;
+use cm_net::{Address, Boundary, Index, NetFault, SiteName, Steps, inside};
 use std::marker::Brand;
 use std::process::Abort;
 use std::sync::ledger::{Blank, Ledger};

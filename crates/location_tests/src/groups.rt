@@ -2,8 +2,8 @@
 ghost use Rattle.std.specs.Prelude.{◌≤◌, All, IfOk};
 ghost use Rattle.cm_net.specs.Boundaries.{IsSound};
 
-use crate::{Fallback, GroupText, Groups, GroupsFault, Options, SiteCode};
 use cm_base::{Label, List, ServerName};
+use cm_groups::{Fallback, GroupText, Groups, GroupsFault, Options, SiteCode};
 use cm_net::{Address, Boundary, SiteName};
 use std::alloc::Global;
 use std::process::Abort;
