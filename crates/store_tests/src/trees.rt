@@ -3,7 +3,6 @@ use cm_base::Hash;
 use cm_tree::{
     FilePath, Folder, HostFolder, Manifest, MemFolder, ScanFault, TreeFault, gather, scan,
 };
-use std::process::Abort;
 use std::test::Fail;
 
 const EMPTY: &[u8] = b"e3b0c44298fc1c149afbf4c8996fb92427ae41e4649b934ca495991b7852b855";
@@ -73,13 +72,12 @@ fn bytes_of_three(rt: &HostRuntime) -> Result<Vec<u8>, Fail> {
 }
 
 #[test]
-fn the_manifest_of_three_files(rt: HostRuntime) -> Result<(), Fail> {
+fn three_files(rt: HostRuntime) -> Result<(), Fail> {
     let bytes = bytes_of_three(&rt)?;
     assert_eq!(rt; bytes.len(), 140);
     let manifest = scan(rt.alloc(), &mut three(&rt, &[])?)
         .ok()
         .ok_or("no manifest")?;
-    assert_eq!(rt; manifest.entries().len(), 3);
     assert_eq!(rt; manifest.encoded_len(), 140);
     let spelled = manifest.encode(rt.alloc()).ok().ok_or("no memory")?;
     assert_eq!(rt; spelled.as_slice(), bytes.as_slice());
@@ -87,25 +85,16 @@ fn the_manifest_of_three_files(rt: HostRuntime) -> Result<(), Fail> {
     let copy = read.copy(rt.alloc()).ok().ok_or("no memory")?;
     let again = copy.encode(rt.alloc()).ok().ok_or("no memory")?;
     assert_eq!(rt; again.as_slice(), bytes.as_slice());
-    Ok(())
-}
-
-#[test]
-fn the_tree_of_three_files(rt: HostRuntime) -> Result<(), Fail> {
     let tree = gather(rt.alloc(), &mut three(&rt, &[])?, 3, 5)
         .ok()
         .ok_or("no tree")?;
+    let of_tree = tree.manifest(rt.alloc()).ok().ok_or("no memory")?;
+    let spelled = of_tree.encode(rt.alloc()).ok().ok_or("no memory")?;
+    assert_eq!(rt; spelled.as_slice(), bytes.as_slice());
     let files = tree.files();
     assert_eq!(rt; files.len(), 3);
     assert_eq!(rt; files[0].path.as_bytes(), b"a.txt".as_slice());
-    assert_eq!(rt; files[0].bytes.as_slice(), b"abc".as_slice());
-    assert_eq!(rt; files[1].path.as_bytes(), b"bin/empty".as_slice());
-    assert_eq!(rt; files[1].bytes.len(), 0);
     assert_eq!(rt; files[2].bytes.as_slice(), b"hello".as_slice());
-    let manifest = tree.manifest(rt.alloc()).ok().ok_or("no memory")?;
-    let spelled = manifest.encode(rt.alloc()).ok().ok_or("no memory")?;
-    let bytes = bytes_of_three(&rt)?;
-    assert_eq!(rt; spelled.as_slice(), bytes.as_slice());
     Ok(())
 }
 
@@ -113,24 +102,7 @@ fn fault_of(rt: &HostRuntime, bytes: &[u8]) -> Option<TreeFault> {
     Manifest::decode(rt.alloc(), bytes).err()
 }
 
-#[test]
-fn empty_manifest(rt: HostRuntime) -> Result<(), Fail> {
-    let bytes = b"CMDL\x01\x00\x00\x00\x00";
-    let manifest = Manifest::decode(rt.alloc(), bytes).ok().ok_or("not read")?;
-    assert_eq!(rt; manifest.entries().len(), 0);
-    assert!(rt; fault_of(&rt, &bytes[..8]) == Some(TreeFault::BadForm { at: 8 }));
-    assert!(rt;
-        fault_of(&rt, b"CMDL\x01\x00\x00\x00\x00\x00") == Some(TreeFault::BadForm { at: 9 })
-    );
-    assert!(rt; fault_of(&rt, b"CMDL\x01\x21\x4e\x00\x00") == Some(TreeFault::TooManyFiles));
-    assert!(rt; fault_of(&rt, b"CMDL\x01\x20\x4e\x00\x00") == Some(TreeFault::BadForm { at: 9 }));
-    assert!(rt; fault_of(&rt, b"CM") == Some(TreeFault::BadForm { at: 2 }));
-    assert!(rt; fault_of(&rt, b"CMDX\x01") == Some(TreeFault::BadForm { at: 0 }));
-    assert!(rt; fault_of(&rt, b"CMDL\x02") == Some(TreeFault::BadForm { at: 4 }));
-    Ok(())
-}
-
-// Two rows of these paths.
+// The fault of two rows of these paths.
 fn two(rt: &HostRuntime, first: &[u8], second: &[u8]) -> Result<Option<TreeFault>, Fail> {
     let mut out = Vec::new(rt.alloc());
     out.extend_from_slice(b"CMDL\x01\x02\x00\x00\x00")?;
@@ -140,128 +112,176 @@ fn two(rt: &HostRuntime, first: &[u8], second: &[u8]) -> Result<Option<TreeFault
 }
 
 #[test]
-fn faults_of_entries(rt: HostRuntime) -> Result<(), Fail> {
-    assert!(rt; two(&rt, b"a", b"b")? == None);
-    assert!(rt; two(&rt, b"a", b"b:c")? == Some(TreeFault::BadPath { entry: 1 }));
-    assert!(rt; two(&rt, b"../a", b"a")? == Some(TreeFault::BadPath { entry: 0 }));
-    assert!(rt; two(&rt, b"b", b"a")? == Some(TreeFault::Unsorted { entry: 1 }));
-    assert!(rt; two(&rt, b"a", b"a")? == Some(TreeFault::Unsorted { entry: 1 }));
-    assert!(rt; two(&rt, b"A.txt", b"a.txt")? == Some(TreeFault::SamePath { entry: 1 }));
-    assert!(rt; two(&rt, b"a", b"")? == Some(TreeFault::BadForm { at: 47 }));
+fn faults_of_manifests(rt: HostRuntime) -> Result<(), Fail> {
+    let headers: [(&[u8], Option<TreeFault>); 8] = [
+        (b"CMDL\x01\x00\x00\x00\x00", None),
+        (b"CMDL\x01\x00\x00\x00", Some(TreeFault::BadForm { at: 8 })),
+        (
+            b"CMDL\x01\x00\x00\x00\x00\x00",
+            Some(TreeFault::BadForm { at: 9 }),
+        ),
+        (b"CMDL\x01\x21\x4e\x00\x00", Some(TreeFault::TooManyFiles)),
+        (
+            b"CMDL\x01\x20\x4e\x00\x00",
+            Some(TreeFault::BadForm { at: 9 }),
+        ),
+        (b"CM", Some(TreeFault::BadForm { at: 2 })),
+        (b"CMDX\x01", Some(TreeFault::BadForm { at: 0 })),
+        (b"CMDL\x02", Some(TreeFault::BadForm { at: 4 })),
+    ];
+    for (bytes, fault) in headers.iter() {
+        assert!(rt; fault_of(&rt, *bytes) == *fault);
+    }
+    let entries: [(&[u8], &[u8], Option<TreeFault>); 7] = [
+        (b"a", b"b", None),
+        (b"a", b"b:c", Some(TreeFault::BadPath { entry: 1 })),
+        (b"../a", b"a", Some(TreeFault::BadPath { entry: 0 })),
+        (b"b", b"a", Some(TreeFault::Unsorted { entry: 1 })),
+        (b"a", b"a", Some(TreeFault::Unsorted { entry: 1 })),
+        (b"A.txt", b"a.txt", Some(TreeFault::SamePath { entry: 1 })),
+        (b"a", b"", Some(TreeFault::BadForm { at: 47 })),
+    ];
+    for (first, second, fault) in entries.iter() {
+        assert!(rt; two(&rt, *first, *second)? == *fault);
+    }
     Ok(())
 }
 
 #[test]
 fn forms_of_paths(rt: HostRuntime) {
-    assert!(rt; FilePath::read(b"a/b.c/...").is_some());
-    assert!(rt; FilePath::read(b"").is_none());
-    assert!(rt; FilePath::read(b"/a").is_none());
-    assert!(rt; FilePath::read(b"a//b").is_none());
-    assert!(rt; FilePath::read(b"a/").is_none());
-    assert!(rt; FilePath::read(b"a/./b").is_none());
-    assert!(rt; FilePath::read(b"..").is_none());
-    assert!(rt; FilePath::read(b"a\\b").is_none());
-    assert!(rt; FilePath::read(b"a\x7f").is_none());
-    assert!(rt; FilePath::read(&[b'a'; 240]).is_some());
-    assert!(rt; FilePath::read(&[b'a'; 241]).is_none());
-}
-
-fn scan_fault(rt: &HostRuntime, folder: &mut MemFolder) -> Option<ScanFault> {
-    scan(rt.alloc(), folder).err()
-}
-
-fn gather_fault(rt: &HostRuntime, folder: &mut MemFolder, most_bytes: u32) -> Option<ScanFault> {
-    gather(rt.alloc(), folder, 64, most_bytes).err()
-}
-
-#[test]
-fn faults_of_files(rt: HostRuntime) -> Result<(), Fail> {
-    let bad: [(&[u8], &[u8]); 2] = [(b"a:b", b""), (b"b", b"long")];
-    assert!(rt;
-        scan_fault(&rt, &mut folder_of(&rt, &bad, &[], &[])?)
-            == Some(ScanFault::BadPath { entry: 0 })
-    );
-    assert!(rt;
-        gather_fault(&rt, &mut folder_of(&rt, &bad, &[], &[])?, 3)
-            == Some(ScanFault::BadPath { entry: 0 })
-    );
-    let same: [(&[u8], &[u8]); 2] = [(b"a.txt", b""), (b"A.txt", b"")];
-    assert!(rt;
-        scan_fault(&rt, &mut folder_of(&rt, &same, &[], &[])?)
-            == Some(ScanFault::SamePath { entry: 1 })
-    );
-    assert!(rt;
-        gather_fault(&rt, &mut folder_of(&rt, &same, &[], &[])?, 3)
-            == Some(ScanFault::SamePath { entry: 1 })
-    );
-    let long: [(&[u8], &[u8]); 2] = [(b"a", b"abc"), (b"b", b"long")];
-    assert!(rt;
-        gather_fault(&rt, &mut folder_of(&rt, &long, &[], &[])?, 3)
-            == Some(ScanFault::FileTooLong { entry: 1 })
-    );
-    assert!(rt; gather_fault(&rt, &mut folder_of(&rt, &long, &[], &[])?, 4) == None);
-    Ok(())
-}
-
-// A folder of an empty file with this path, and of so many others behind it.
-fn many(rt: &HostRuntime, first: &[u8], count: u32) -> Result<MemFolder, Fail> {
-    let mut files = pairs(rt, &[(first, b"")])?;
-    for n in 0..count {
-        let number = n.to_be_bytes();
-        let mut path = Vec::new(rt.alloc());
-        for byte in &number {
-            path.push(b'a' + *byte / 16)?;
-            path.push(b'a' + *byte % 16)?;
-        }
-        files.push((path, Vec::new(rt.alloc())))?;
+    let rows: [(&[u8], bool); 11] = [
+        (b"a/b.c/...", true),
+        (b"", false),
+        (b"/a", false),
+        (b"a//b", false),
+        (b"a/", false),
+        (b"a/./b", false),
+        (b"..", false),
+        (b"a\\b", false),
+        (b"a\x7f", false),
+        (&[b'a'; 240], true),
+        (&[b'a'; 241], false),
+    ];
+    for (text, is_path) in rows.iter() {
+        assert!(rt; FilePath::read(*text).is_some() == *is_path);
     }
-    let none = Vec::new(rt.alloc());
-    Ok(
-        MemFolder::new(rt.alloc(), files, none, Vec::new(rt.alloc()))
-            .ok()
-            .ok_or("no memory")?,
-    )
 }
 
-#[test]
-fn number_of_files(rt: HostRuntime) -> Result<(), Fail> {
-    let too_many = Some(ScanFault::TooManyFiles);
-    assert!(rt; gather_fault(&rt, &mut many(&rt, b"a", 63)?, 0) == None);
-    assert!(rt; gather_fault(&rt, &mut many(&rt, b"a", 64)?, 0) == too_many);
-    assert!(rt; scan_fault(&rt, &mut many(&rt, b"a", 64)?) == None);
-    // That there is one too many comes before a path that is off its form.
-    assert!(rt; gather_fault(&rt, &mut many(&rt, b"a:", 64)?, 0) == too_many);
-    Ok(())
+// Files that are gathered with these limits, or scanned where there are none: their answer, where no call of the folder fails,
+// and how many calls it comes after. A call more fails after it; each call up to there gives a fault of the folder.
+#[derive(Clone, Copy)]
+struct Walk<'a> {
+    files: &'a [(&'a [u8], &'a [u8])],
+    limits: Option<(u32, u32)>,
+    calls: u64,
+    fault: Option<ScanFault>,
 }
 
-#[test]
-fn length_of_files(rt: HostRuntime) -> Result<(), Fail> {
-    let most: [(&[u8], &[u8]); 1] = [(b"a", &[7; 65_536])];
-    let more: [(&[u8], &[u8]); 1] = [(b"a", &[7; 65_537])];
-    assert!(rt; gather_fault(&rt, &mut folder_of(&rt, &most, &[], &[])?, 65_536) == None);
-    assert!(rt;
-        gather_fault(&rt, &mut folder_of(&rt, &more, &[], &[])?, 65_536)
-            == Some(ScanFault::FileTooLong { entry: 0 })
-    );
-    let manifest = scan(rt.alloc(), &mut folder_of(&rt, &more, &[], &[])?)
-        .ok()
-        .ok_or("no manifest")?;
-    let entries = manifest.entries();
-    assert_eq!(rt; entries.len(), 1);
-    assert_eq!(rt; entries[0].size, 65_537);
-    Ok(())
+fn fault_at(rt: &HostRuntime, walk: &Walk, call: u64) -> Result<Option<ScanFault>, Fail> {
+    let mut folder = folder_of(rt, walk.files, &[], &[call])?;
+    Ok(match walk.limits {
+        None => scan(rt.alloc(), &mut folder).err(),
+        Some((most_files, most_bytes)) => {
+            gather(rt.alloc(), &mut folder, most_files.min(20_000), most_bytes).err()
+        }
+    })
 }
 
-// The calls are ten: the path past the most, then for each file its path, a reading where it has bytes, and the reading at
-// its end, and the path past the last. So each file is read once.
+fn is_answered(rt: &HostRuntime, walk: &Walk) -> Result<bool, Fail> {
+    for call in 0..walk.calls {
+        if fault_at(rt, walk, call)? != Some(ScanFault::Folder) {
+            return Ok(false);
+        }
+    }
+    Ok(fault_at(rt, walk, walk.calls)? == walk.fault)
+}
+
+// The calls are: the path past the most, then for each file its path and its readings until one is empty, and last, where there
+// are fewer files than the most, the path past the last. So each file is read once, and a fault of the folder stands where its
+// call stands.
 #[test]
 fn each_call_fails_in_turn(rt: HostRuntime) -> Result<(), Fail> {
-    for call in 0..10 {
-        assert!(rt; scan_fault(&rt, &mut three(&rt, &[call])?) == Some(ScanFault::Folder));
-        assert!(rt; gather_fault(&rt, &mut three(&rt, &[call])?, 5) == Some(ScanFault::Folder));
+    let good: [(&[u8], &[u8]); 2] = [(b"b", b""), (b"a", b"abc")];
+    let off: [(&[u8], &[u8]); 2] = [(b"a", b"abc"), (b"b:c", b"")];
+    let same: [(&[u8], &[u8]); 2] = [(b"A.txt", b""), (b"a.txt", b"")];
+    let most: [(&[u8], &[u8]); 1] = [(b"a", &[7; 65_536])];
+    let more: [(&[u8], &[u8]); 1] = [(b"a", &[7; 65_537])];
+    let bad_path = Some(ScanFault::BadPath { entry: 1 });
+    let same_path = Some(ScanFault::SamePath { entry: 1 });
+    let too_long = Some(ScanFault::FileTooLong { entry: 0 });
+    let too_many = Some(ScanFault::TooManyFiles);
+    let walks = [
+        Walk {
+            files: &good,
+            limits: None,
+            calls: 7,
+            fault: None,
+        },
+        Walk {
+            files: &good,
+            limits: Some((2, 3)),
+            calls: 6,
+            fault: None,
+        },
+        Walk {
+            files: &good,
+            limits: Some((2, 2)),
+            calls: 3,
+            fault: too_long,
+        },
+        Walk {
+            files: &good,
+            limits: Some((1, 3)),
+            calls: 1,
+            fault: too_many,
+        },
+        Walk {
+            files: &off,
+            limits: None,
+            calls: 5,
+            fault: bad_path,
+        },
+        Walk {
+            files: &off,
+            limits: Some((2, 3)),
+            calls: 5,
+            fault: bad_path,
+        },
+        // That there is one too many comes before a path that is off its form.
+        Walk {
+            files: &off,
+            limits: Some((1, 3)),
+            calls: 1,
+            fault: too_many,
+        },
+        Walk {
+            files: &same,
+            limits: None,
+            calls: 4,
+            fault: same_path,
+        },
+        Walk {
+            files: &same,
+            limits: Some((2, 0)),
+            calls: 4,
+            fault: same_path,
+        },
+        Walk {
+            files: &most,
+            limits: Some((1, 65_536)),
+            calls: 4,
+            fault: None,
+        },
+        Walk {
+            files: &more,
+            limits: Some((1, 65_536)),
+            calls: 4,
+            fault: too_long,
+        },
+    ];
+    for walk in walks.iter() {
+        assert!(rt; is_answered(&rt, walk)?);
     }
-    assert!(rt; scan_fault(&rt, &mut three(&rt, &[10])?) == None);
-    assert!(rt; gather_fault(&rt, &mut three(&rt, &[10])?, 5) == None);
     Ok(())
 }
 
