@@ -21,6 +21,6 @@ Makes old new = IsLibrary old Missing × Becomes old new (Opened empty)
 abbrev pub IsMade : Files → Type 0
 IsMade left = look left ≡ Opened empty
 
--- a stop while a library is made leaves what it might have left before, no library, or an empty one
-abbrev pub IsMadeOrNot : (List ℕ → File → Type 0) → Files → Type 0
-IsMadeOrNot may_leave left = IsImage may_leave left ⊎ ((look left ≡ Missing) ⊎ IsMade left)
+-- A crash while a library is made leaves what it might have left before; or, only if there was no library, none or an empty one.
+abbrev pub IsMadeOrNot : Files → (List ℕ → File → Type 0) → Files → Type 0
+IsMadeOrNot files may_leave left = IsImage may_leave left ⊎ ((look files ≡ Missing) × ((look left ≡ Missing) ⊎ IsMade left))

@@ -19,8 +19,9 @@ impl<D: Disk> Library<D> {
         ensures made { OnOk result (Makes (D.reads disk.old) (D.reads disk.new)) }
         ensures there { IsErrOf result CreateFault.AlreadyThere → ForSome (D.reads disk.old) (λ files. look files ≢ Missing) }
         ensures same { IsErrOf result CreateFault.AlreadyThere → D.reads disk.new ≡ D.reads disk.old }
-        // A stop at any moment leaves what it might have left before, no library, or an empty one; after Ok an empty one.
-        ensures any_moment { ForSome (D.reads disk.old) (λ files. LeavesOnly D.moment D.left_since disk.old disk.new (IsMadeOrNot (D.may_leave disk.old))) }
+        // A crash at any moment leaves what it might have left before; or, only where there was no library, none or an empty one.
+        // After Ok an empty one.
+        ensures any_moment { ForSome (D.reads disk.old) (λ files. LeavesOnly D.moment D.left_since disk.old disk.new (IsMadeOrNot files (D.may_leave disk.old))) }
         ensures durable { OnOk result (ForSome (D.reads disk.old) (λ files. (left : Files) → IsImage (D.may_leave disk.new) left → IsMade left)) }
         ensures later { D.faults disk.old ≤ D.faults disk.new }
         ensures cause { IsErrOf result CreateFault.Disk → Rose (D.faults disk.old) (D.faults disk.new) }

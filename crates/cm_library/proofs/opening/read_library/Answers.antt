@@ -28,13 +28,13 @@ pub returns-in-Err-read_rows-clause-unreadable : goal.returns-in-Err-read_rows-c
 returns-in-Err-read_rows-clause-unreadable g c place at is x told =
     let fault = err_is {T = Log × Contents} c.in-Err-read_rows.fault (Unreadable place at) is in
     look_broken x c.in-Ok.reader (UnreadableLibrary place at) (c.in-Ok.ensures.live x told)
-    (c.in-Err-read_rows.ensures.unreadable place at (ap (λ (f : OpenFault). let r : Result Rows OpenFault = Err f in r) fault) x (c.open.ensures.same ∙ told))
+    (c.in-Err-read_rows.ensures.unreadable place at (ap (λ (f : OpenFault). let r : Result Rows OpenFault = Err f in r) fault) x (c.open.ensures.only.same ∙ told))
 
 pub returns-then-not-leaves_room-clause-unreadable : goal.returns-then-not-leaves_room-clause-unreadable
 returns-then-not-leaves_room-clause-unreadable g c place at is x told =
     let d = g.D.Disk in
     let rows = c.in-Ok-read_rows.rows in
-    let t = c.open.ensures.same ∙ told in
+    let t = c.open.ensures.only.same ∙ told in
     named {T = _} c.unreadable.result place at (look x) c.unreadable.ensures is
     (no_room x c.end.result rows (sym c.leaves_room.ensures ∙ c.if-not-leaves_room.true)
     (look_closed x (d.may_leave c.read_rows.new.disk) c.in-Ok.reader c.read_rows.new.reader rows c.end.result (c.in-Ok.ensures.live x told) (c.in-Ok-read_rows.ensures.rows x t) (c.read_rows.ensures.reading x (c.read_rows.ensures.same ∙ t)) c.in-Ok-read_rows.ensures.ended (c.end.ensures ∙ c.done-log.ensures.end)))
@@ -43,7 +43,7 @@ pub returns-in-Ok-None-clause-unreadable : goal.returns-in-Ok-None-clause-unread
 returns-in-Ok-None-clause-unreadable g c place at is x told =
     let d = g.D.Disk in
     let rows = c.in-Ok-read_rows.rows in
-    let t = c.open.ensures.same ∙ told in
+    let t = c.open.ensures.only.same ∙ told in
     named {T = _} c.unreadable-in-Ok-None.result place at (look x) c.unreadable-in-Ok-None.ensures is
     (none_loaded x c.end.result rows ((rw c.in-Ok-None.field-0-is at c.in-Ok-None.ensures.loads) x (c.read_rows.ensures.same ∙ t))
     (look_closed x (d.may_leave c.read_rows.new.disk) c.in-Ok.reader c.read_rows.new.reader rows c.end.result (c.in-Ok.ensures.live x told) (c.in-Ok-read_rows.ensures.rows x t) (c.read_rows.ensures.reading x (c.read_rows.ensures.same ∙ t)) c.in-Ok-read_rows.ensures.ended (c.end.ensures ∙ c.done-log.ensures.end)))
@@ -66,7 +66,7 @@ returns-in-Ok-of-clause-stands g c x told =
     let rows = c.in-Ok-read_rows.rows in
     let t2 = sym c.load_all.ensures.same ∙ told in
     let t1 = sym c.read_rows.ensures.same ∙ t2 in
-    let t0 = sym c.open.ensures.same ∙ t1 in
+    let t0 = sym c.open.ensures.only.same ∙ t1 in
     let reading = c.read_rows.ensures.reading x t2 in
     record {
       stands = all_loaded x c.end.result rows (state_with (manifest_in_map c.in-Ok-Some.manifests) rows) c.in-Ok-of.contents (sym c.leaves_room.ensures ∙ c.if-not-leaves_room.false) ((rw c.in-Ok-Some.field-0-is at c.in-Ok-Some.ensures.loads) x t2) c.in-Ok-of.ensures

@@ -11,7 +11,7 @@ pub returns-in-Ok-None-clause-goes_on : goal.returns-in-Ok-None-clause-goes_on
 returns-in-Ok-None-clause-goes_on g c x told =
     let d = g.D.Disk in
     ap (λ (r : Reading). library_from x (reader_place c.args.reader.now) (Some c.args.rows.now) r)
-    (sym (closes x (d.may_leave c.args.disk.now) (d.may_leave c.next.new.disk) c.args.reader.now c.next.new.self (c.requires.reading x told) (c.next.ensures.reading x (c.next.ensures.same ∙ told)) c.next.ensures.shelf
+    (sym (closes x (d.may_leave c.args.disk.now) (d.may_leave c.next.new.disk) c.args.reader.now c.next.new.self (c.requires.reading x told) (c.next.ensures.reading x (c.next.ensures.only.same ∙ told)) c.next.ensures.shelf
     ((rw c.in-Ok-None.field-0-is at c.in-Ok-None.ensures.none) x told) (rw c.in-Ok-None.field-0-is at c.in-Ok-None.ensures.ended)))
 
 pub returns-in-Ok-false-clause-unreadable : goal.returns-in-Ok-false-clause-unreadable

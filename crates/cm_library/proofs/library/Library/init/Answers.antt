@@ -1,7 +1,9 @@
 use Rattle.std.proofs.Common.{◌≡◌, ℕ, List, OnOk, Result, Ok, Err, Option, Some, inl, inr, ◌∙◌}
+use Rattle.std.specs.Prelude.{◌≢◌}
 use Rattle.std.specs.Option.{ForSome}
 use Rattle.cm_disk.specs.Disk.{File, Files, IsImage}
 use Rattle.cm_log.specs.declared.faults.CreateFault.{CreateFault}
+use Rattle.cm_log.specs.declared.faults.CreateFault.TheVariants.{Disk}
 use Rattle.cm_log.specs.declared.shelf.Shelf.TheVariants.{PkgLib}
 use Rattle.cm_log.specs.Settled.{Makes as MakesLog, Rests, IsMaking}
 use Rattle.cm_log.specs.Shelves.{ready_place, log_place}
@@ -24,13 +26,16 @@ returns-clause-made g c = made _ _ c.create.result c.create.ensures.made
 pub returns-clause-there : goal.returns-clause-there
 returns-clause-there g c = λ is files told. not_missing files (c.create.ensures.there is files told)
 
+pub returns-clause-same : goal.returns-clause-same
+returns-clause-same g c there = (c.create.ensures.only there).same
+
 -- the library is durable
 durable : (old new : Option Files) (may_leave : List ℕ → File → Type 0) (result : Result (Unit {0}) CreateFault) → OnOk result (ForSome old (λ files. (now : Files) × (new ≡ Some now) × MakesLog PkgLib files now))
-    → OnOk result (ForSome new (λ files. Rests PkgLib files may_leave)) → OnOk result (ForSome old (λ files. (left : Files) → IsImage may_leave left → IsMade left))
+    → (result ≢ Err Disk → ForSome new (λ files. Rests PkgLib files may_leave)) → OnOk result (ForSome old (λ files. (left : Files) → IsImage may_leave left → IsMade left))
 durable old new may_leave (Err fault) log rests = tt
 durable old new may_leave (Ok done) log rests = λ files told left image.
     let makes = log files told in
-    let rest = rests makes.0 makes.1 in
+    let rest = rests (λ e. absurd (cc)) makes.0 makes.1 in
     opens_empty left
     (alike PkgLib makes.0 left (rest.ready (left (ready_place PkgLib)) (image (ready_place PkgLib))) (λ (side : Side). rest.logs side (left (log_place PkgLib side)) (image (log_place PkgLib side))) ∙ makes.2.made)
 
@@ -38,10 +43,10 @@ pub returns-clause-durable : goal.returns-clause-durable
 returns-clause-durable g c = durable _ _ (g.D.Disk.may_leave c.create.new.disk) c.create.result c.create.ensures.made c.create.ensures.rests
 
 -- what a stop leaves while the log is made, as a library
-as_library : (may_leave : List ℕ → File → Type 0) (left : Files) → IsMaking PkgLib may_leave left → IsMadeOrNot may_leave left
-as_library may_leave left making = elim making.log [
+as_library : (files : Files) (may_leave : List ℕ → File → Type 0) (left : Files) → IsMaking PkgLib files may_leave left → IsMadeOrNot files may_leave left
+as_library files may_leave left making = elim making.log [
   | inl image ↦ inl image
-  | inr log ↦ elim log [ inl none ↦ inr (inl (missing left none)) | inr fresh ↦ inr (inr (opens_empty left fresh)) ]
+  | inr log ↦ inr (missing files log.0, elim log.1 [ inl none ↦ inl (missing left none) | inr fresh ↦ inr (opens_empty left fresh) ])
 ]
 
 pub returns-clause-any_moment : goal.returns-clause-any_moment
@@ -50,6 +55,6 @@ returns-clause-any_moment g c = λ files told.
     let made = c.create.ensures.any_moment files told in
     record {
       later = made.later;
-      each = λ left since. as_library may_leave left (made.each left since);
-      before = λ t left early since. elim (made.before t left early since) [ inl past ↦ inl past | inr making ↦ inr (as_library may_leave left making) ];
+      each = λ left since. as_library files may_leave left (made.each left since);
+      before = λ t left early since. elim (made.before t left early since) [ inl past ↦ inl past | inr making ↦ inr (as_library files may_leave left making) ];
     }
