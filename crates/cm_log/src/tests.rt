@@ -118,105 +118,116 @@ fn lay<D: Disk>(disk: &mut D, place: &Place, bytes: Option<&[u8]>) -> bool {
     }
 }
 
-// The two logs of a shelf that has `ready`, and the side and the place that are unreadable.
-type Broken = (Option<&'static [u8]>, Option<&'static [u8]>, Side, u64);
+fn lay_behind<D: Disk>(disk: &mut D, place: &Place, bytes: &[u8]) -> bool {
+    match disk.size(place) {
+        Ok(Some(at)) if at < 1_000_000 && bytes.len() < 10_000 => {
+            disk.write_at(place, at, bytes).is_ok()
+        }
+        _ => false,
+    }
+}
+
+const HEAD: &[u8] = b"\x01\x01\x01\0\0\0\0\0\0\0";
 
 const LIVE: &[u8] = b"\x01\x01\x01\0\0\0\0\0\0\0\0";
 
 const IDLE: &[u8] = b"\0\x01\0\0\0\0\0\0\0\0\0";
 
-// Absent or empty, neither live, both live of one generation, and a live log of an unknown form.
-const BAD_HEADS: [Broken; 12] = [
-    (None, Some(IDLE), Side::First, 0),
-    (Some(b""), Some(IDLE), Side::First, 0),
-    (Some(LIVE), None, Side::Second, 0),
-    (Some(LIVE), Some(b""), Side::Second, 0),
-    (None, None, Side::First, 0),
-    (Some(IDLE), Some(IDLE), Side::First, 0),
-    (Some(b"\x02"), Some(b"\x02"), Side::First, 0),
-    (Some(LIVE), Some(LIVE), Side::First, 0),
+// The two logs of a shelf that has `ready`, and how many records it has, or the side and the place that are unreadable.
+type Laid = (
+    Option<&'static [u8]>,
+    Option<&'static [u8]>,
+    Result<usize, (Side, u64)>,
+);
+
+// Absent, empty or cut short, neither live, both live of one generation, a live log of an unknown form; and two logs of
+// which only the live one of the greater generation counts.
+const HEADS: [Laid; 16] = [
+    (None, Some(IDLE), Err((Side::First, 0))),
+    (Some(b""), Some(IDLE), Err((Side::First, 0))),
+    (Some(LIVE), None, Err((Side::Second, 0))),
+    (Some(LIVE), Some(b""), Err((Side::Second, 0))),
+    (None, None, Err((Side::First, 0))),
+    (Some(IDLE), Some(IDLE), Err((Side::First, 0))),
+    (Some(b"\x02"), Some(b"\x02"), Err((Side::First, 0))),
+    (Some(LIVE), Some(LIVE), Err((Side::First, 0))),
     (
         Some(b"\x01\x02\x01\0\0\0\0\0\0\0\0"),
         Some(IDLE),
-        Side::First,
-        1,
+        Err((Side::First, 1)),
     ),
-    (Some(b"\x01"), Some(IDLE), Side::First, 1),
+    (Some(b"\x01"), Some(IDLE), Err((Side::First, 1))),
+    (Some(b"\x01\x01\x01"), Some(IDLE), Err((Side::First, 3))),
     (
         Some(IDLE),
         Some(b"\x01\x03\0\0\0\0\0\0\0\0\0"),
-        Side::Second,
-        1,
+        Err((Side::Second, 1)),
     ),
     (
         Some(LIVE),
         Some(b"\x01\x02\x02\0\0\0\0\0\0\0\0"),
-        Side::Second,
-        1,
+        Err((Side::Second, 1)),
     ),
-];
-
-// What stands in a live log, and the place that is unreadable: no gate, the length or the body cut short, a length above 65,536.
-const BAD_RECORDS: [(&[u8], u64); 8] = [
-    (b"\x01\x01\x01", 3),
-    (b"\x01\x01\x01\0\0\0\0\0\0\0", 10),
-    (b"\x01\x01\x01\0\0\0\0\0\0\0\x01", 11),
-    (b"\x01\x01\x01\0\0\0\0\0\0\0\x01\0\0\0", 14),
-    (b"\x01\x01\x01\0\0\0\0\0\0\0\x01\x02\0\0\0a", 16),
-    (b"\x01\x01\x01\0\0\0\0\0\0\0\x01\x01\0\0\0a", 16),
-    (b"\x01\x01\x01\0\0\0\0\0\0\0\x01\x01\0\x01\0", 11),
+    (Some(LIVE), Some(b"\0\xff"), Ok(0)),
     (
-        b"\x01\x01\x01\0\0\0\0\0\0\0\x01\x01\0\0\0a\x01\0\0\0\x01",
-        17,
+        Some(b"\x01\x01\x02\0\0\0\0\0\0\0\0"),
+        Some(b"\x01\x09\x01"),
+        Ok(0),
+    ),
+    (
+        Some(LIVE),
+        Some(b"\x01\x01\0\x01\0\0\0\0\0\0\x01\x01\0\0\0a\xff"),
+        Ok(1),
     ),
 ];
 
-// Whether a shelf with these two logs is unreadable there.
-fn is_unreadable(alloc: Global, broken: Broken) -> Result<bool, Fail> {
-    let (first, second, side, at) = broken;
+// What stands behind the head of a live log, and how many records it has, or the place that is unreadable: no gate, the
+// length or the body cut short, a length above 65,536. Bytes behind a closed gate mean nothing.
+const RECORDS: [(&[u8], Result<usize, u64>); 9] = [
+    (b"", Err(10)),
+    (b"\x01", Err(11)),
+    (b"\x01\0\0\0", Err(14)),
+    (b"\x01\x02\0\0\0a", Err(16)),
+    (b"\x01\x01\0\0\0a", Err(16)),
+    (b"\x01\x01\0\x01\0", Err(11)),
+    (b"\x01\x01\0\0\0a\x01\0\0\0\x01", Err(17)),
+    (b"\x02\x01\x01", Ok(0)),
+    (b"\x01\x01\0\0\0a\x02\x01\0\0\0\0", Ok(1)),
+];
+
+// Whether a shelf with these two logs, of which the first goes on behind, is read so.
+fn reads_as(alloc: Global, laid: Laid, behind: &[u8]) -> Result<bool, Fail> {
+    let (first, second, expected) = laid;
     let shelf = Shelf::PkgLib;
     let mut disk = MemDisk::new(alloc, Vec::new(alloc))?;
-    let laid = lay(&mut disk, &ready_at(shelf), Some(b""))
+    let all = lay(&mut disk, &ready_at(shelf), Some(b"anything"))
         && lay(&mut disk, &log_at(shelf, Side::First), first)
-        && lay(&mut disk, &log_at(shelf, Side::Second), second);
-    let place = log_at(shelf, side);
-    Ok(laid && records(&mut disk, shelf, &[b"a", b"b"]) == Err(LogFault::Unreadable { place, at }))
+        && lay(&mut disk, &log_at(shelf, Side::Second), second)
+        && (behind.is_empty() || lay_behind(&mut disk, &log_at(shelf, Side::First), behind));
+    let found = records(&mut disk, shelf, &[b"a", b"b"]);
+    Ok(
+        all && match expected {
+            Ok(count) => found == Ok(count),
+            Err((side, at)) => {
+                let place = log_at(shelf, side);
+                found == Err(LogFault::Unreadable { place, at })
+            }
+        },
+    )
 }
 
 #[test]
-fn unreadable_logs(rt: HostRuntime) -> Result<(), Fail> {
-    for broken in BAD_HEADS {
-        assert!(rt; is_unreadable(rt.alloc(), broken)?, "head, at {}", broken.3);
+fn laid_logs(rt: HostRuntime) -> Result<(), Fail> {
+    for (row, laid) in HEADS.iter().enumerate() {
+        assert!(rt; reads_as(rt.alloc(), *laid, b"")?, "head {row}");
     }
-    for (log, at) in BAD_RECORDS {
-        let broken = (Some(log), Some(IDLE), Side::First, at);
-        assert!(rt; is_unreadable(rt.alloc(), broken)?, "record, at {at}");
-    }
-    Ok(())
-}
-
-#[test]
-fn bytes_that_mean_nothing(rt: HostRuntime) -> Result<(), Fail> {
-    let shelf = Shelf::Site;
-    for (first, second, count) in [
-        (
-            b"\x01\x01\x01\0\0\0\0\0\0\0\x01\x01\0\0\0a\x02\x01\0\0\0\0".as_slice(),
-            b"\x07".as_slice(),
-            1,
-        ),
-        (b"\x01\x01\x01\0\0\0\0\0\0\0\x02\x01\x01", b"\0\xff", 0),
-        (
-            b"\x01\x01\x01\0\0\0\0\0\0\0\0",
-            b"\x01\x01\0\x01\0\0\0\0\0\0\x01\x01\0\0\0a\xff",
-            1,
-        ),
-        (b"\x01\x01\x02\0\0\0\0\0\0\0\0", b"\x01\x09\x01", 0),
-    ] {
-        let mut disk = MemDisk::new(rt.alloc(), Vec::new(rt.alloc()))?;
-        assert!(rt; lay(&mut disk, &ready_at(shelf), Some(b"anything")));
-        assert!(rt; lay(&mut disk, &log_at(shelf, Side::First), Some(first)));
-        assert!(rt; lay(&mut disk, &log_at(shelf, Side::Second), Some(second)));
-        assert!(rt; records(&mut disk, shelf, &[b"a"]) == Ok(count));
+    for (row, (behind, expected)) in RECORDS.iter().enumerate() {
+        let expected = match expected {
+            Ok(count) => Ok(*count),
+            Err(at) => Err((Side::First, *at)),
+        };
+        let laid = (Some(HEAD), Some(IDLE), expected);
+        assert!(rt; reads_as(rt.alloc(), laid, behind)?, "record {row}");
     }
     Ok(())
 }
@@ -272,15 +283,6 @@ fn a_stop_at_each_call(rt: HostRuntime) -> Result<(), Fail> {
     Ok(())
 }
 
-fn lay_behind<D: Disk>(disk: &mut D, place: &Place, bytes: &[u8]) -> bool {
-    match disk.size(place) {
-        Ok(Some(at)) if at < 1_000_000 && bytes.len() < 10_000 => {
-            disk.write_at(place, at, bytes).is_ok()
-        }
-        _ => false,
-    }
-}
-
 // Lays 100 times 100 records of 61 bytes behind the head of a log, and a closed gate.
 fn lay_many<D: Disk>(disk: &mut D, place: &Place) -> bool {
     let mut hundred = [7u8; 6600];
@@ -301,7 +303,7 @@ fn many_records(rt: HostRuntime) -> Result<(), Fail> {
     let first = log_at(shelf, Side::First);
     // 205 calls lay the log; the 100th one after them fails.
     let mut disk = MemDisk::stopping(rt.alloc(), 205 + 99)?;
-    assert!(rt; lay(&mut disk, &first, Some(&LIVE[..10])) && lay_many(&mut disk, &first));
+    assert!(rt; lay(&mut disk, &first, Some(HEAD)) && lay_many(&mut disk, &first));
     assert!(rt; lay(&mut disk, &log_at(shelf, Side::Second), Some(IDLE)));
     assert!(rt; lay(&mut disk, &ready_at(shelf), Some(b"")));
     match last(&mut disk, shelf) {
