@@ -1,5 +1,5 @@
 //! What the tests hand to `run`.
-use cm_base::{MemSink, MemSource, Place, ServerName};
+use cm_base::{MemSink, MemSource, Memory, Place, ServerName};
 use cm_disk::Disk;
 use cm_top::{Bay, run};
 use cm_tree::{Folder, MemFolder};
@@ -8,15 +8,15 @@ use std::process::Abort;
 use std::test::Fail;
 
 /// How a run of these words ended over a site's disk and a folder: the status, the text, and the disk. The sink takes three
-/// bytes a call, and its calls in `fail` fail.
-pub(crate) fn ran_over<F: Folder, D: Disk + Drop>(
+/// bytes a call, and its calls in `fail` fail. An Err is want of memory.
+pub(crate) fn tried_over<F: Folder, D: Disk + Drop>(
     rt: &impl Abort,
     alloc: Global,
     words: &[&str],
     folder: &mut F,
     disk: D,
     fail: &[u64],
-) -> Result<(u8, Vec<u8>, D), Fail> {
+) -> Result<(u8, Vec<u8>, D), Memory> {
     let mut list = Vec::new(alloc);
     for word in words {
         list.push(String::from_str(alloc, word)?)?;
@@ -27,9 +27,20 @@ pub(crate) fn ran_over<F: Folder, D: Disk + Drop>(
     let mut bays = Vec::new(alloc);
     bays.push(Bay { name, disk })?;
     let status = run(alloc, &list, &mut input, folder, &mut out, &mut bays, 0);
-    let bay = bays.pop().ok_or("the bay")?;
-    let Bay { disk, .. } = bay;
+    let Bay { disk, .. } = bays.pop().expect(rt, "the bay");
     Ok((status, out.bytes().to_vec(alloc)?, disk))
+}
+
+/// The same, where there is memory.
+pub(crate) fn ran_over<F: Folder, D: Disk + Drop>(
+    rt: &impl Abort,
+    alloc: Global,
+    words: &[&str],
+    folder: &mut F,
+    disk: D,
+    fail: &[u64],
+) -> Result<(u8, Vec<u8>, D), Fail> {
+    Ok(tried_over(rt, alloc, words, folder, disk, fail)?)
 }
 
 /// The same over a folder without files.

@@ -1,54 +1,86 @@
-//! What a stop leaves.
-use crate::fakes::ran;
-use cm_disk::MemDisk;
+//! What a crash leaves of the commands that write.
+use crate::fakes::tried_over;
+use cm_base::Memory;
+use cm_disk::{MemDisk, at_each_crash};
+use cm_tree::MemFolder;
 use std::alloc::Global;
+use std::mem;
 use std::process::Abort;
 use std::test::Fail;
 
-// Whether each image that a stop may leave is no library, in which `init` makes one, or an empty library.
-fn leaves_all_or_nothing(rt: &impl Abort, alloc: Global, disk: &MemDisk) -> Result<bool, Fail> {
-    for pick in 0..3u8 {
-        let left = disk.crash(pick)?;
-        let (status, text, left) = ran(rt, alloc, &["list", "site"], left, &[])?;
-        let missing = status == 7 && text.as_slice() == b"library site missing\n".as_slice();
-        let empty = status == 0 && text.is_empty();
-        let (_, text, _) = ran(rt, alloc, &["init"], left, &[])?;
-        let made = text.as_slice() == b"made 1\n".as_slice();
-        let there = text.as_slice() == b"made 0\n".as_slice();
-        if !(missing && made || empty && there) {
-            return Ok(false);
-        }
+// The status and the text of one word over a disk.
+fn answered(
+    rt: &impl Abort,
+    alloc: Global,
+    words: &[&str],
+    disk: &mut MemDisk,
+) -> Result<(u8, Vec<u8>), Memory> {
+    let taken = mem::replace(disk, MemDisk::new(alloc, Vec::new(alloc))?);
+    let none = Vec::new(alloc);
+    let mut folder = MemFolder::new(alloc, none, Vec::new(alloc), Vec::new(alloc))?;
+    let (status, text, back) = tried_over(rt, alloc, words, &mut folder, taken, &[])?;
+    *disk = back;
+    Ok((status, text))
+}
+
+// Whether an image is no library, in which `init` makes one, or an empty library; and an empty one once `init` was
+// acknowledged.
+fn is_none_or_empty(
+    rt: &impl Abort,
+    alloc: Global,
+    acknowledged: bool,
+    image: &mut MemDisk,
+) -> Result<bool, Memory> {
+    let (status, text) = answered(rt, alloc, &["list", "site"], image)?;
+    let missing = status == 7 && text.as_slice() == b"library site missing\n".as_slice();
+    let empty = status == 0 && text.is_empty();
+    let (_, text) = answered(rt, alloc, &["init"], image)?;
+    let made = text.as_slice() == b"made 1\n".as_slice();
+    let there = text.as_slice() == b"made 0\n".as_slice();
+    Ok(missing && made && !acknowledged || empty && there)
+}
+
+fn init_status(rt: &impl Abort, alloc: Global, disk: &mut MemDisk) -> Option<u8> {
+    match answered(rt, alloc, &["init"], disk) {
+        Ok((status, _)) => Some(status),
+        Err(_) => None,
     }
-    Ok(true)
 }
 
 #[test]
 fn within_init(rt: HostRuntime) -> Result<(), Fail> {
     let alloc = rt.alloc();
-    for at in 0..11 {
-        let disk = MemDisk::stopping(alloc, at)?;
-        let (status, _, disk) = ran(&rt, alloc, &["init"], disk, &[])?;
-        assert!(rt; status == 5);
-        assert!(rt; leaves_all_or_nothing(&rt, alloc, &disk)?);
-    }
+    let left = at_each_crash(
+        alloc,
+        |disk| init_status(&rt, alloc, disk),
+        |status, image| match status {
+            Some(0) => matches!(is_none_or_empty(&rt, alloc, true, image), Ok(true)),
+            Some(5) => matches!(is_none_or_empty(&rt, alloc, false, image), Ok(true)),
+            _ => false,
+        },
+    );
+    assert!(rt; left == Ok(()));
     Ok(())
 }
 
-// The making of `ready` fails, and a second `init` is stopped at each call.
+// The making of `ready` fails, and a second `init` fails at each call, until one meets no failing call.
 #[test]
 fn within_a_second_init(rt: HostRuntime) -> Result<(), Fail> {
     let alloc = rt.alloc();
-    for at in 9..21u64 {
-        let mut fail = Vec::new(alloc);
-        fail.push(8)?;
-        for call in at..32 {
-            fail.push(call)?;
+    for at in 9..1000u64 {
+        let mut disk = MemDisk::new(alloc, [8, at].to_vec(alloc)?)?;
+        assert!(rt; init_status(&rt, alloc, &mut disk) == Some(5));
+        let status = init_status(&rt, alloc, &mut disk);
+        for pick in 0..3u8 {
+            let mut image = disk.crash(pick)?;
+            assert!(rt; is_none_or_empty(&rt, alloc, status == Some(0), &mut image)?);
         }
-        let disk = MemDisk::new(alloc, fail)?;
-        let (status, _, disk) = ran(&rt, alloc, &["init"], disk, &[])?;
-        assert!(rt; status == 5);
-        let (_, _, disk) = ran(&rt, alloc, &["init"], disk, &[])?;
-        assert!(rt; leaves_all_or_nothing(&rt, alloc, &disk)?);
+        if status == Some(0) {
+            assert!(rt; at > 15);
+            return Ok(());
+        }
+        assert!(rt; status == Some(5));
     }
+    assert!(rt; false, "the second init meets no failing call");
     Ok(())
 }
