@@ -80,7 +80,8 @@ impl<R: Files<File = File> + AllocGlobal + Clone + Drop> Disk for SiteDisk<R> {
                 Ok(()) => Ok(()),
                 Err(_) => Err(self.fault()),
             },
-            Base::Absent | Base::Refused => Err(self.fault()),
+            Base::Absent => Err(self.fault()),
+            Base::Refused => Err(self.fault()),
         }
     }
 
@@ -90,7 +91,8 @@ impl<R: Files<File = File> + AllocGlobal + Clone + Drop> Disk for SiteDisk<R> {
                 Ok(()) => Ok(()),
                 Err(_) => Err(self.fault()),
             },
-            Base::Absent | Base::Refused => Err(self.fault()),
+            Base::Absent => Err(self.fault()),
+            Base::Refused => Err(self.fault()),
         }
     }
 
