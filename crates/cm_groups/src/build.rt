@@ -16,7 +16,7 @@ use std::alloc::Global;
 
 impl Groups {
     /// These groups with their index.
-    fn indexed(alloc: Global, groups: Vec<Group>) -> Result<Groups, Memory>
+    pub(crate) fn indexed(alloc: Global, groups: Vec<Group>) -> Result<Groups, Memory>
         requires sound { All (λ group. All IsSound group.boundaries) groups.items }
         requires groups { AreGroups groups.items }
         ensures { IfOk result (λ made. made ≡ groups.items) }

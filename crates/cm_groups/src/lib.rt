@@ -11,6 +11,7 @@ mod group_text;
 mod groups;
 mod laws;
 mod making;
+mod named;
 mod names;
 mod options;
 mod reach;

@@ -1,10 +1,9 @@
 -- Steps of lists and of their faults.
 use Rattle.std.proofs.Common.{◌≡◌, ℕ, ◌+◌, ◌<◌, ◌∙◌, refl, ap, sym, List, [], ◌∷◌, ◌++◌, drop, get_or, length, map, Some, None}
-use Rattle.std.proofs.lemmas.List.{drop_more, length-map}
-use Rattle.toml.specs.Data.{Data}
+use Rattle.std.proofs.lemmas.List.{drop_more}
 use Rattle.toml.specs.View.{view, items_view}
 use Rattle.toml.specs.declared.value.Value.{Value}
-use Rattle.cm_topo.specs.Keys.{list_of}
+use Rattle.cm_topo.specs.Entries.{list_of}
 use Rattle.cm_topo.specs.declared.trouble.Trouble.{Trouble}
 use Rattle.cm_topo.specs.Troubles.{each_entry, fault_at, first}
 
@@ -31,12 +30,12 @@ pub first-map-some : {X Y : Type 0} (f : X → Y) (xs : List X) (ys : List Y) (x
 first-map-some f [] ys x some = cc
 first-map-some f (y ∷ xs) ys x some = cc
 
--- an entry with which nothing is wrong
-pub entry_step : (part : ℕ) (troubles : ℕ → Data → List Trouble) (entry : ℕ) (values : List Value) (value : Value) → entry < length values → value ≡ get_or values entry value
-    → first (troubles entry (view value)) ≡ None
-    → first (each_entry part troubles entry (map view (drop entry values))) ≡ first (each_entry part troubles (entry + 1) (map view (drop (entry + 1) values)))
-entry_step part troubles entry values value lt is none =
-    ap (λ (vs : List Value). first (each_entry part troubles entry (map view vs))) (drop_more values entry value lt ∙ ap (λ (v : Value). v ∷ drop (entry + 1) values) (sym is))
-    ∙ first-map-none (fault_at part entry) (troubles entry (view value)) _ none
+-- a row with which nothing is wrong
+pub entry_step : {X : Type 0} (part : ℕ) (troubles : ℕ → X → List Trouble) (entry : ℕ) (rows : List X) (row : X) → entry < length rows → row ≡ get_or rows entry row
+    → first (troubles entry row) ≡ None
+    → first (each_entry part troubles entry (drop entry rows)) ≡ first (each_entry part troubles (entry + 1) (drop (entry + 1) rows))
+entry_step {X} part troubles entry rows row lt is none =
+    ap (λ (xs : List X). first (each_entry part troubles entry xs)) (drop_more rows entry row lt ∙ ap (λ (x : X). x ∷ drop (entry + 1) rows) (sym is))
+    ∙ first-map-none (fault_at part entry) (troubles entry row) _ none
 
-pub ruleset steps = (list_of-view, first-none, first-some, first-map-none, first-map-some, length-map)
+pub ruleset steps = (list_of-view, first-none, first-some, first-map-none, first-map-some)

@@ -1,8 +1,7 @@
-pub mod FirstPass
+pub mod Entries
 pub mod Keys
 pub mod Outcomes
 pub mod Rows
 pub mod Rules
 pub mod SecondPass
-pub mod Tables
 pub mod Troubles

@@ -1,21 +1,42 @@
--- What is wrong with values, in order, and with the entries of a part.
-use Rattle.std.specs.Prelude.{ℕ, ◌+◌, ◌++◌, nat_le, Bool, List, [], ◌∷◌, map, Option, Some, None, Result, Ok, Err, if◌then◌else◌}
+-- What is wrong with values, where it stands, and values read in order.
+use Rattle.std.specs.Prelude.{ℕ, ◌+◌, ◌++◌, Bool, List, [], ◌∷◌, map, Option, Some, None, Result, Ok, Err, if◌then◌else◌}
 use Rattle.cm_topo.specs.declared.fault.TopoFault.{TopoFault}
 use Rattle.cm_topo.specs.declared.fault.TopoFault.TheVariants as fault
 use Rattle.cm_topo.specs.declared.placed.Placed.{Placed}
 use Rattle.cm_topo.specs.declared.trouble.Trouble.{Trouble}
-use Rattle.cm_topo.specs.declared.trouble.Trouble.TheVariants.{Shape, Broken}
-use Rattle.cm_topo.specs.Rules.{too_many}
+use Rattle.cm_topo.specs.declared.trouble.Trouble.TheVariants.{Shape, Broken, Memory}
 
 -- the first of a list
 abbrev pub first : {X : Type 0} → List X → Option X
 first [] = None
 first (x ∷ xs) = Some x
 
--- what is wrong with a value, if anything is
-abbrev pub wrong : {X : Type 0} → Result X Trouble → List Trouble
-wrong (Ok x) = []
-wrong (Err trouble) = trouble ∷ []
+-- the same with the value changed, and with what is wrong changed
+abbrev pub result_map : {X Y E : Type 0} → (X → Y) → Result X E → Result Y E
+result_map f (Ok x) = Ok (f x)
+result_map f (Err e) = Err e
+
+abbrev pub result_map_err : {X E F : Type 0} → (E → F) → Result X E → Result X F
+result_map_err f (Ok x) = Ok x
+result_map_err f (Err e) = Err (f e)
+
+-- what comes of a value, or what is wrong with it
+abbrev pub result_and_then : {X Y E : Type 0} → Result X E → (X → Result Y E) → Result Y E
+result_and_then (Ok x) f = f x
+result_and_then (Err e) f = Err e
+
+-- what is made of values in order; the first that is wrong is the answer
+abbrev pub in_order2 : {A B X E : Type 0} → (A → B → X) → Result A E → Result B E → Result X E
+in_order2 f (Ok a) b = result_map (f a) b
+in_order2 f (Err e) b = Err e
+
+abbrev pub in_order3 : {A B C X E : Type 0} → (A → B → C → X) → Result A E → Result B E → Result C E → Result X E
+in_order3 f (Ok a) b c = in_order2 (f a) b c
+in_order3 f (Err e) b c = Err e
+
+abbrev pub in_order4 : {A B C D X E : Type 0} → (A → B → C → D → X) → Result A E → Result B E → Result C E → Result D E → Result X E
+in_order4 f (Ok a) b c d = in_order3 (f a) b c d
+in_order4 f (Err e) b c d = Err e
 
 -- a trouble at the entry of a part
 abbrev pub fault_at : ℕ → ℕ → Trouble → Placed
@@ -25,6 +46,7 @@ fault_at part entry trouble = record { trouble = trouble; part = part; entry = e
 abbrev pub fault_from : Trouble → ℕ → ℕ → TopoFault
 fault_from Shape part entry = fault.WrongShape part entry
 fault_from (Broken rule) part entry = fault.Rule rule part entry
+fault_from Memory part entry = fault.Memory
 
 abbrev pub fault_of : Placed → TopoFault
 fault_of placed = fault_from placed.trouble placed.part placed.entry
@@ -37,11 +59,7 @@ broken_if test rule = if test then Broken rule ∷ [] else []
 abbrev pub broken_unless : Bool → ℕ → List Trouble
 broken_unless test rule = if test then [] else Broken rule ∷ []
 
--- so many entries stand before that there may be no further one
-abbrev pub limit_troubles : ℕ → ℕ → List Trouble
-limit_troubles limit entry = broken_if (nat_le limit entry) too_many
-
--- what is wrong with the entries of a part, of which the first has this number
+-- what is wrong with the rows of a part, of which the first has this number
 abbrev pub each_entry : {X : Type 0} → ℕ → (ℕ → X → List Trouble) → ℕ → List X → List Placed
 each_entry part troubles entry [] = []
 each_entry part troubles entry (x ∷ xs) = map (fault_at part entry) (troubles entry x) ++ each_entry part troubles (entry + 1) xs

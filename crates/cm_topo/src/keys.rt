@@ -1,121 +1,82 @@
-//! What the value at a key says.
-ghost use Rattle.std.specs.Prelude.{◌≡◌, ◌≤◌, IfOk, IfSome, Some};
+//! What single values say.
+ghost use Rattle.std.specs.Prelude.{◌≡◌, ◌≤◌, IfErr, IfOk, IfSome, None, Some, Ok, Err};
 ghost use Rattle.cm_net.specs.Boundaries.{IsSound};
 ghost use Rattle.cm_net.specs.Meanings.{IsAddressOf, IsBoundaryOf, rule_of};
 ghost use Rattle.cm_net.specs.Readings.{address_in as address_meant, boundary_in as boundary_meant};
-ghost use Rattle.toml.specs.Data.{get_member};
-ghost use Rattle.toml.specs.View.{table_view, view};
-ghost use Rattle.cm_topo.specs.Keys.{address_said, boundary_said, code_said, flag_said, is_reserved, label_said, minutes_said, name_said, number_said, point_name_said, site_said, within};
+ghost use Rattle.toml.specs.Data.{as_str};
+ghost use Rattle.toml.specs.View.{view};
+ghost use Rattle.cm_topo.specs.Keys.{is_reserved, number_said, within};
+ghost use Rattle.cm_topo.specs.declared.trouble.Trouble.TheVariants.{Shape};
 
-use crate::document::value_at;
+use crate::entries::Said;
 use crate::rules::{
-    BAD_ADDRESS, BAD_LENGTH, BAD_NAME, HOST_BITS_SET, MIXED_FAMILIES, MOST_MINUTES,
-    RANGE_BACKWARDS, TOO_LONG_FALLBACK,
+    BAD_ADDRESS, BAD_LENGTH, BAD_NAME, HOST_BITS_SET, MIXED_FAMILIES, MOST_CONNECTIONS,
+    MOST_MINUTES, MOST_PRIORITY, RANGE_BACKWARDS, TOO_LONG_FALLBACK,
 };
 use crate::trouble::Trouble;
 use cm_base::{Label, ServerName};
 use cm_groups::{Fallback, SiteCode};
 use cm_net::{Address, Boundary, NetFault, SiteName, each_text_is_read};
-use toml::{Table, Value};
+use std::alloc::Global;
+use toml::Value;
 
-/// The label that a value is.
-pub(crate) fn label_in(value: &Value) -> Result<Label, Trouble>
-    ensures { result ≡ label_said (Some (view value.now)) }
+/// The text that a value is.
+fn text_in(value: &Value) -> Result<&str, Trouble>
+    ensures text { IfOk result (λ text. as_str (view value.now) ≡ Some text.now) }
+    ensures none { IfErr result (λ trouble. (trouble ≡ Shape) × (as_str (view value.now) ≡ None)) }
 {
-    let Some(text) = value.as_str() else {
-        return Err(Trouble::Shape);
-    };
-    match Label::read(text.as_bytes()) {
-        Some(label) => Ok(label),
-        None => Err(Trouble::Broken(BAD_NAME)),
+    value.as_str().ok_or(Trouble::Shape)
+}
+
+impl Said for Label {
+    ghost use Rattle.cm_topo.specs.Keys.{label_said};
+
+    ghost said = { label_said };
+
+    fn read(_alloc: Global, value: &Value) -> Result<Label, Trouble> {
+        let text = text_in(value)?;
+        Label::read(text.as_bytes()).ok_or(Trouble::Broken(BAD_NAME))
     }
 }
 
-/// The label at a key.
-pub(crate) fn label_at(table: &Table, key: &str) -> Result<Label, Trouble>
-    ensures { result ≡ label_said (get_member key.now (table_view table.now)) }
-{
-    match value_at(table, key) {
-        Some(value) => label_in(value),
-        None => Err(Trouble::Shape),
+impl Said for ServerName {
+    ghost use Rattle.cm_topo.specs.Keys.{name_said};
+
+    ghost said = { name_said };
+
+    fn read(_alloc: Global, value: &Value) -> Result<ServerName, Trouble> {
+        let text = text_in(value)?;
+        ServerName::read(text.as_bytes()).ok_or(Trouble::Broken(BAD_NAME))
     }
 }
 
-/// The name of a server that a value is.
-pub(crate) fn name_in(value: &Value) -> Result<ServerName, Trouble>
-    ensures { result ≡ name_said (Some (view value.now)) }
-{
-    let Some(text) = value.as_str() else {
-        return Err(Trouble::Shape);
-    };
-    match ServerName::read(text.as_bytes()) {
-        Some(name) => Ok(name),
-        None => Err(Trouble::Broken(BAD_NAME)),
+impl Said for SiteName {
+    ghost use Rattle.cm_topo.specs.Keys.{name_said};
+
+    ghost said = { name_said };
+
+    fn read(_alloc: Global, value: &Value) -> Result<SiteName, Trouble> {
+        let text = text_in(value)?;
+        SiteName::read(text.as_bytes()).ok_or(Trouble::Broken(BAD_NAME))
     }
 }
 
-/// The name of a server at a key.
-pub(crate) fn name_at(table: &Table, key: &str) -> Result<ServerName, Trouble>
-    ensures { result ≡ name_said (get_member key.now (table_view table.now)) }
-{
-    match value_at(table, key) {
-        Some(value) => name_in(value),
-        None => Err(Trouble::Shape),
+impl Said for SiteCode {
+    ghost use Rattle.cm_topo.specs.Keys.{code_said};
+
+    ghost said = { code_said };
+
+    fn read(_alloc: Global, value: &Value) -> Result<SiteCode, Trouble> {
+        let text = text_in(value)?;
+        SiteCode::read(text.as_bytes()).ok_or(Trouble::Broken(BAD_NAME))
     }
 }
 
 /// Whether a shelf of the site has the name, so that no point may have it.
-fn is_reserved(name: &ServerName) -> bool
+pub(crate) fn is_reserved(name: &ServerName) -> bool
     ensures { result ≡ is_reserved name.now }
 {
     name.as_bytes() == b"site".as_slice() || name.as_bytes() == b"records".as_slice()
-}
-
-/// The name of a point that a value is.
-fn point_name_in(value: &Value) -> Result<ServerName, Trouble>
-    ensures { result ≡ point_name_said (Some (view value.now)) }
-{
-    let name = match name_in(value) {
-        Ok(name) => name,
-        Err(trouble) => return Err(trouble),
-    };
-    if is_reserved(&name) {
-        return Err(Trouble::Broken(BAD_NAME));
-    }
-    Ok(name)
-}
-
-/// The name of a point at a key.
-pub(crate) fn point_name_at(table: &Table, key: &str) -> Result<ServerName, Trouble>
-    ensures { result ≡ point_name_said (get_member key.now (table_view table.now)) }
-{
-    match value_at(table, key) {
-        Some(value) => point_name_in(value),
-        None => Err(Trouble::Shape),
-    }
-}
-
-/// The code of a site that a value is.
-fn code_in(value: &Value) -> Result<SiteCode, Trouble>
-    ensures { result ≡ code_said (Some (view value.now)) }
-{
-    let Some(text) = value.as_str() else {
-        return Err(Trouble::Shape);
-    };
-    match SiteCode::read(text.as_bytes()) {
-        Some(code) => Ok(code),
-        None => Err(Trouble::Broken(BAD_NAME)),
-    }
-}
-
-/// The code of a site at a key.
-pub(crate) fn code_at(table: &Table, key: &str) -> Result<SiteCode, Trouble>
-    ensures { result ≡ code_said (get_member key.now (table_view table.now)) }
-{
-    match value_at(table, key) {
-        Some(value) => code_in(value),
-        None => Err(Trouble::Shape),
-    }
 }
 
 /// The address that a text spells.
@@ -136,26 +97,14 @@ fn address_of(text: &[u8]) -> Option<Address>
     address_read(text)
 }
 
-/// The address that a value is.
-fn address_in(value: &Value) -> Result<Address, Trouble>
-    ensures { address_said (Some (view value.now)) ≡ result }
-{
-    let Some(text) = value.as_str() else {
-        return Err(Trouble::Shape);
-    };
-    match address_of(text.as_bytes()) {
-        Some(address) => Ok(address),
-        None => Err(Trouble::Broken(BAD_ADDRESS)),
-    }
-}
+impl Said for Address {
+    ghost use Rattle.cm_topo.specs.Keys.{address_said};
 
-/// The address at a key.
-pub(crate) fn address_at(table: &Table, key: &str) -> Result<Address, Trouble>
-    ensures { address_said (get_member key.now (table_view table.now)) ≡ result }
-{
-    match value_at(table, key) {
-        Some(value) => address_in(value),
-        None => Err(Trouble::Shape),
+    ghost said = { address_said };
+
+    fn read(_alloc: Global, value: &Value) -> Result<Address, Trouble> {
+        let text = text_in(value)?;
+        address_of(text.as_bytes()).ok_or(Trouble::Broken(BAD_ADDRESS))
     }
 }
 
@@ -192,67 +141,30 @@ fn boundary_of(text: &[u8]) -> Result<Boundary, u8>
     boundary_read(text)
 }
 
-/// The boundary that a value is.
-fn boundary_in(value: &Value) -> Result<Boundary, Trouble>
-    ensures said { boundary_said (Some (view value.now)) ≡ result }
-    ensures sound { IfOk result (λ boundary. IsSound boundary) }
-{
-    let Some(text) = value.as_str() else {
-        return Err(Trouble::Shape);
-    };
-    match boundary_of(text.as_bytes()) {
-        Ok(boundary) => Ok(boundary),
-        Err(rule) => Err(Trouble::Broken(rule)),
+impl Said for Boundary {
+    ghost use Rattle.cm_net.specs.Boundaries.{IsSound};
+    ghost use Rattle.cm_topo.specs.Keys.{boundary_said};
+
+    ghost said = { boundary_said };
+
+    ghost IsFit = { IsSound };
+
+    fn read(_alloc: Global, value: &Value) -> Result<Boundary, Trouble> {
+        let text = text_in(value)?;
+        match boundary_of(text.as_bytes()) {
+            Ok(boundary) => Ok(boundary),
+            Err(rule) => Err(Trouble::Broken(rule)),
+        }
     }
 }
 
-/// The boundary at a key.
-pub(crate) fn boundary_at(table: &Table, key: &str) -> Result<Boundary, Trouble>
-    ensures said { boundary_said (get_member key.now (table_view table.now)) ≡ result }
-    ensures sound { IfOk result (λ boundary. IsSound boundary) }
-{
-    match value_at(table, key) {
-        Some(value) => boundary_in(value),
-        None => Err(Trouble::Shape),
-    }
-}
+impl Said for bool {
+    ghost use Rattle.cm_topo.specs.Keys.{flag_said};
 
-/// The name of a site that a value is.
-fn site_in(value: &Value) -> Result<SiteName, Trouble>
-    ensures { result ≡ name_said (Some (view value.now)) }
-{
-    let Some(text) = value.as_str() else {
-        return Err(Trouble::Shape);
-    };
-    match SiteName::read(text.as_bytes()) {
-        Some(site) => Ok(site),
-        None => Err(Trouble::Broken(BAD_NAME)),
-    }
-}
+    ghost said = { flag_said };
 
-/// The name of a site at a key, or none.
-pub(crate) fn site_at(table: &Table, key: &str) -> Result<Option<SiteName>, Trouble>
-    ensures { result ≡ site_said (get_member key.now (table_view table.now)) }
-{
-    let Some(value) = value_at(table, key) else {
-        return Ok(None);
-    };
-    match site_in(value) {
-        Ok(site) => Ok(Some(site)),
-        Err(trouble) => Err(trouble),
-    }
-}
-
-/// The truth value at a key, or what stands for its absence.
-pub(crate) fn flag_at(table: &Table, key: &str, absent: bool) -> Result<bool, Trouble>
-    ensures { result ≡ flag_said absent (get_member key.now (table_view table.now)) }
-{
-    let Some(value) = value_at(table, key) else {
-        return Ok(absent);
-    };
-    match value.as_bool() {
-        Some(flag) => Ok(flag),
-        None => Err(Trouble::Shape),
+    fn read(_alloc: Global, value: &Value) -> Result<bool, Trouble> {
+        value.as_bool().ok_or(Trouble::Shape)
     }
 }
 
@@ -268,48 +180,57 @@ fn within(number: i64, most: u16) -> Option<u16>
     }
 }
 
-/// The number from 0 to the most at a key.
-pub(crate) fn number_at(table: &Table, key: &str, most: u16) -> Result<u16, Trouble>
-    ensures number { result ≡ number_said most (get_member key.now (table_view table.now)) }
+/// The number from 0 to the most that a value is.
+fn number_in(value: &Value, most: u16) -> Result<u16, Trouble>
+    ensures number { result ≡ number_said most (view value.now) }
     ensures most { IfOk result (λ number. number ≤ most) }
 {
-    let Some(value) = value_at(table, key) else {
-        return Err(Trouble::Shape);
-    };
-    let Some(number) = value.as_integer() else {
-        return Err(Trouble::Shape);
-    };
-    match within(number, most) {
-        Some(number) => Ok(number),
-        None => Err(Trouble::Broken(BAD_NAME)),
-    }
+    let number = value.as_integer().ok_or(Trouble::Shape)?;
+    within(number, most).ok_or(Trouble::Broken(BAD_NAME))
 }
 
-/// The minutes of a relation that a value is.
-fn minutes_in(value: &Value) -> Result<Fallback, Trouble>
-    ensures { result ≡ minutes_said (Some (view value.now)) }
-{
-    if let Some(text) = value.as_str() {
-        if text.as_bytes() == b"never".as_slice() {
-            return Ok(Fallback::Never);
+/// A priority.
+impl Said for u8 {
+    ghost use Rattle.cm_topo.specs.Keys.{number_said};
+
+    ghost said = { number_said 255 };
+
+    fn read(_alloc: Global, value: &Value) -> Result<u8, Trouble> {
+        match number_in(value, MOST_PRIORITY) {
+            Ok(priority) => Ok(priority as u8),
+            Err(trouble) => Err(trouble),
         }
-        return Err(Trouble::Broken(TOO_LONG_FALLBACK));
-    }
-    let Some(number) = value.as_integer() else {
-        return Err(Trouble::Shape);
-    };
-    match within(number, MOST_MINUTES) {
-        Some(minutes) => Ok(Fallback::After(minutes)),
-        None => Err(Trouble::Broken(TOO_LONG_FALLBACK)),
     }
 }
 
-/// The minutes of a relation at a key, 120 where it is absent.
-pub(crate) fn minutes_at(table: &Table, key: &str) -> Result<Fallback, Trouble>
-    ensures { result ≡ minutes_said (get_member key.now (table_view table.now)) }
-{
-    match value_at(table, key) {
-        Some(value) => minutes_in(value),
-        None => Ok(Fallback::After(120)),
+/// A number of connections.
+impl Said for u16 {
+    ghost use Rattle.cm_topo.specs.Keys.{number_said};
+
+    ghost said = { number_said 65535 };
+
+    fn read(_alloc: Global, value: &Value) -> Result<u16, Trouble> {
+        number_in(value, MOST_CONNECTIONS)
+    }
+}
+
+/// The minutes of a relation.
+impl Said for Fallback {
+    ghost use Rattle.cm_topo.specs.Keys.{minutes_said};
+
+    ghost said = { minutes_said };
+
+    fn read(_alloc: Global, value: &Value) -> Result<Fallback, Trouble> {
+        if let Some(text) = value.as_str() {
+            if text.as_bytes() == b"never".as_slice() {
+                return Ok(Fallback::Never);
+            }
+            return Err(Trouble::Broken(TOO_LONG_FALLBACK));
+        }
+        let number = value.as_integer().ok_or(Trouble::Shape)?;
+        match within(number, MOST_MINUTES) {
+            Some(minutes) => Ok(Fallback::After(minutes)),
+            None => Err(Trouble::Broken(TOO_LONG_FALLBACK)),
+        }
     }
 }

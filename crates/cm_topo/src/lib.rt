@@ -1,23 +1,21 @@
 //! The topology of a site, read from its text in TOML.
 #![tactic(auto)]
 
-mod document;
+mod entries;
 mod fault;
-mod first_pass;
+mod group_row;
 mod keys;
-mod lists;
-mod part;
+mod known;
 mod placed;
 mod reading;
 mod rows;
 mod rules;
 mod second_pass;
 mod servers;
-mod stop;
-mod tables;
 mod topology;
 mod topology_text;
 mod trouble;
+mod wrong;
 
 pub use fault::TopoFault;
 pub use reading::read_topology;

@@ -1,186 +1,170 @@
 //! Reading the text of a topology.
-ghost use Rattle.std.specs.Prelude.{◌≡◌, ◌≤◌, All, IfOk, None, Ok, codes, length};
-ghost use Rattle.cm_groups.specs.Faults.{first_fault};
+ghost use Rattle.std.specs.Prelude.{◌≡◌, ◌≢◌, [], All, IfErr, IfOk, Ok, Err, codes, map};
+ghost use Rattle.std.specs.List.{zip};
 ghost use Rattle.cm_net.specs.Boundaries.{IsSound};
 ghost use Rattle.toml.specs.Data.{get_member};
 ghost use Rattle.toml.specs.View.{table_view};
-ghost use Rattle.cm_topo.specs.FirstPass.{AreFewGroups, AreFewServers, AreRelationsRight};
-ghost use Rattle.cm_topo.specs.Keys.{code_said, items_of};
-ghost use Rattle.cm_topo.specs.Outcomes.{Gives, Says, outcome, topology_of, unless_faulty};
-ghost use Rattle.cm_topo.specs.Rows.{boundary_row, group_row, peer_row, point_group_row, point_row, rows_in, text_of};
-ghost use Rattle.cm_topo.specs.SecondPass.{IsFew, IsModest, second_pass};
+ghost use Rattle.cm_topo.specs.Keys.{code_said, needed, otherwise};
+ghost use Rattle.cm_topo.specs.Outcomes.{Says, both_passes, checked, topology_of};
+ghost use Rattle.cm_topo.specs.Rows.{alone, default_row, groups_read, servers_read, table_said, text_read, with_relations};
+ghost use Rattle.cm_topo.specs.SecondPass.{AreFewGroups, AreFewServers, known_of};
+ghost use Rattle.cm_topo.specs.declared.trouble.Trouble.TheVariants.{Memory};
 
-use crate::document::items_or_none;
-use crate::first_pass::first_pass_fault;
-use crate::keys::code_at;
-use crate::rows::{
-    boundary_rows, default_points, group_rows, peer_rows, point_group_rows, point_rows,
-};
+use crate::entries::{needed_at, otherwise_at, part_of};
+use crate::group_row::GroupRow;
+use crate::known::Known;
+use crate::placed::Placed;
+use crate::rules::{MOST_BOUNDARIES, MOST_GROUPS, MOST_PEERS, MOST_POINT_GROUPS, MOST_POINTS};
 use crate::second_pass::second_pass_fault;
-use crate::stop::Stop;
-use crate::topology_text::TopologyText;
+use crate::topology_text::{GroupsText, ServersText, TopologyText};
+use crate::trouble::Trouble;
 use crate::{TopoFault, Topology};
-use cm_base::{Label, List, Memory};
-use cm_groups::{GroupText, Groups, GroupsFault, SiteCode};
+use cm_base::{Label, List, Memory as NoMemory, ServerName};
+use cm_groups::{Fallback, GroupText, Groups, SiteCode};
 use cm_net::Boundary;
 use cm_peer::Peer;
 use cm_points::{Point, PointGroup};
-use std::alloc::Global;
+use std::alloc::{AllocError, Global};
 use toml::Table;
 
-/// The boundaries of a document.
-fn boundaries_of(alloc: Global, table: &Table) -> Result<Vec<(Label, Boundary)>, Memory>
-    requires { length (items_of (get_member (codes "boundary") (table_view table.now))) ≤ 2000 }
-    ensures rows { IfOk result (λ rows. rows_in boundary_row (items_of (get_member (codes "boundary") (table_view table.now))) ≡ rows.items) }
-    ensures few { IfOk result (λ rows. length rows.items ≤ 2000) }
-    ensures sound { IfOk result (λ rows. All (λ row. IsSound row.1) rows.items) }
+/// The groups with their relations.
+fn texts_of(
+    alloc: Global,
+    groups: Vec<GroupRow>,
+    relations: Vec<List<(Label, Fallback)>>,
+) -> Result<Vec<GroupText>, AllocError>
+    ensures { IfOk result (λ texts. texts.items ≡ map (λ row. with_relations row.0 row.1) (zip groups.items relations.items)) }
 {
-    boundary_rows(alloc, items_or_none(table, "boundary"))
+    groups
+        .into_iter()
+        .zip(relations)
+        .map(|(row, relations)| GroupText {
+            name: row.name,
+            options: row.options,
+            boundaries: row.boundaries,
+            points: row.points,
+            relations,
+        })
+        .collect(alloc)
 }
 
-/// The groups of a document.
-fn groups_of(alloc: Global, table: &Table) -> Result<Vec<GroupText>, Memory>
-    requires few { length (items_of (get_member (codes "group") (table_view table.now))) ≤ 500 }
-    requires relations { AreRelationsRight (table_view table.now) }
-    ensures rows { IfOk result (λ rows. rows_in group_row (items_of (get_member (codes "group") (table_view table.now))) ≡ rows.items) }
-    ensures few { IfOk result (λ rows. length rows.items ≤ 500) }
-    ensures modest { IfOk result (λ rows. All IsModest rows.items) }
+/// What a value says that stands in no entry of a part.
+fn alone<R: Drop>(part: u8, said: Result<R, Trouble>) -> Result<R, Placed>
+    ensures { result ≡ alone part said }
 {
-    group_rows(alloc, items_or_none(table, "group"))
+    match said {
+        Ok(row) => Ok(row),
+        Err(trouble) => Err(trouble.at(part, 0)),
+    }
 }
 
-/// The points of a document.
-fn points_of(alloc: Global, table: &Table) -> Result<Vec<Point>, Memory>
-    requires { length (items_of (get_member (codes "point") (table_view table.now))) ≤ 64 }
-    ensures rows { IfOk result (λ rows. rows_in point_row (items_of (get_member (codes "point") (table_view table.now))) ≡ rows.items) }
-    ensures few { IfOk result (λ rows. length rows.items ≤ 64) }
-{
-    point_rows(alloc, items_or_none(table, "point"))
-}
-
-/// The point groups of a document.
-fn point_groups_of(alloc: Global, table: &Table) -> Result<Vec<PointGroup>, Memory>
-    requires { length (items_of (get_member (codes "point_group") (table_view table.now))) ≤ 64 }
-    ensures rows { IfOk result (λ rows. rows_in point_group_row (items_of (get_member (codes "point_group") (table_view table.now))) ≡ rows.items) }
-    ensures few { IfOk result (λ rows. length rows.items ≤ 64) }
-{
-    point_group_rows(alloc, items_or_none(table, "point_group"))
-}
-
-/// The peers of a document.
-fn peers_of(alloc: Global, table: &Table) -> Result<Vec<Peer>, Memory>
-    requires { length (items_of (get_member (codes "peer") (table_view table.now))) ≤ 5000 }
-    ensures rows { IfOk result (λ rows. rows_in peer_row (items_of (get_member (codes "peer") (table_view table.now))) ≡ rows.items) }
-    ensures few { IfOk result (λ rows. length rows.items ≤ 5000) }
-{
-    peer_rows(alloc, items_or_none(table, "peer"))
-}
-
-/// The rows of a document.
-fn text_of(alloc: Global, table: &Table, code: SiteCode) -> Result<TopologyText, Memory>
-    requires code { code_said (get_member (codes "code") (table_view table.now)) ≡ Ok code }
-    requires groups { AreFewGroups (table_view table.now) }
-    requires servers { AreFewServers (table_view table.now) }
-    requires relations { AreRelationsRight (table_view table.now) }
-    ensures text { IfOk result (λ text. text_of (table_view table.now) ≡ text) }
-    ensures few { IfOk result (λ text. IsFew text) }
-    ensures modest { IfOk result (λ text. All IsModest text.groups) }
+/// Parts 0 to 3 of a document.
+fn groups_of(alloc: Global, table: &Table) -> Result<GroupsText, Placed>
+    ensures said { IfOk result (λ text. groups_read (table_view table.now) ≡ Ok text) }
+    ensures few { IfOk result AreFewGroups }
     ensures sound { IfOk result (λ text. All (λ row. IsSound row.1) text.boundaries) }
+    ensures wrong { IfErr result (λ placed. placed.trouble ≢ Memory → groups_read (table_view table.now) ≡ Err placed) }
 {
-    let boundaries = boundaries_of(alloc, table)?;
-    let groups = groups_of(alloc, table)?;
-    let points = points_of(alloc, table)?;
-    let point_groups = point_groups_of(alloc, table)?;
-    let peers = peers_of(alloc, table)?;
-    let default_points = default_points(alloc, table)?;
-    Ok(TopologyText {
+    let code = alone(0, needed_at::<SiteCode>(alloc, table, "code"))?;
+    let boundaries = part_of::<(Label, Boundary)>(alloc, table, 1, "boundary", MOST_BOUNDARIES)?;
+    let groups = part_of::<GroupRow>(alloc, table, 2, "group", MOST_GROUPS)?;
+    let relations = part_of::<List<(Label, Fallback)>>(alloc, table, 3, "group", MOST_GROUPS)?;
+    let groups = texts_of(alloc, groups, relations)?;
+    Ok(GroupsText {
         code,
         boundaries: List::of(boundaries),
         groups: List::of(groups),
-        points: List::of(points),
-        point_groups: List::of(point_groups),
-        peers: List::of(peers),
-        default_points: List::of(default_points),
     })
 }
 
-/// The want of memory, which is all that the groups answer where nothing is wrong.
-fn want_of_memory(fault: GroupsFault) -> Memory
-    requires { fault ≡ GroupsFault.Memory }
+/// Parts 4 to 7 of a document.
+fn servers_of(alloc: Global, table: &Table) -> Result<ServersText, Placed>
+    ensures said { IfOk result (λ text. servers_read (table_view table.now) ≡ Ok text) }
+    ensures few { IfOk result AreFewServers }
+    ensures wrong { IfErr result (λ placed. placed.trouble ≢ Memory → servers_read (table_view table.now) ≡ Err placed) }
 {
-    match fault {
-        GroupsFault::Memory => Memory,
-        _ => unreachable!(),
-    }
+    let points = part_of::<Point>(alloc, table, 4, "point", MOST_POINTS)?;
+    let point_groups = part_of::<PointGroup>(alloc, table, 5, "point_group", MOST_POINT_GROUPS)?;
+    let peers = part_of::<Peer>(alloc, table, 6, "peer", MOST_PEERS)?;
+    let none = List::of(Vec::new(alloc));
+    let default_points = alone(7, otherwise_at(alloc, table, "default", none))?;
+    Ok(ServersText {
+        points: List::of(points),
+        point_groups: List::of(point_groups),
+        peers: List::of(peers),
+        default_points,
+    })
 }
 
-/// The topology of rows in which both passes found no fault, so that the groups refuse none.
-fn topology_of(alloc: Global, text: TopologyText) -> Result<Topology, Memory>
-    requires sound { All (λ row. IsSound row.1) text.boundaries }
-    requires accepted { first_fault text.code text.boundaries text.groups ≡ None }
+/// The rows of a document.
+fn text_of(alloc: Global, table: &Table) -> Result<TopologyText, Placed>
+    ensures said { IfOk result (λ text. text_read (table_view table.now) ≡ Ok text) }
+    ensures few { IfOk result (λ text. AreFewGroups text.sites × AreFewServers text.servers) }
+    ensures sound { IfOk result (λ text. All (λ row. IsSound row.1) text.sites.boundaries) }
+    ensures wrong { IfErr result (λ placed. placed.trouble ≢ Memory → text_read (table_view table.now) ≡ Err placed) }
+{
+    let sites = groups_of(alloc, table)?;
+    let servers = servers_of(alloc, table)?;
+    Ok(TopologyText { sites, servers })
+}
+
+/// The topology of rows, by the names that there are. A name that is not there is left out.
+fn topology_of(alloc: Global, known: &Known, text: TopologyText) -> Result<Topology, NoMemory>
+    requires known { known.now ≡ known_of text }
+    requires few { AreFewGroups text.sites }
+    requires sound { All (λ row. IsSound row.1) text.sites.boundaries }
     ensures { IfOk result (λ topology. topology ≡ topology_of text) }
 {
-    let TopologyText {
+    let TopologyText { sites, servers } = text;
+    let GroupsText {
         code,
         boundaries,
         groups,
-        points,
-        point_groups,
-        peers,
-        default_points,
-    } = text;
-    let built = Groups::build(
+    } = sites;
+    let rows = boundaries.items();
+    let boundary_count = rows.len();
+    let group_count = groups.items().len();
+    let groups = Groups::of_names(
         alloc,
         code,
-        boundaries.into_items(),
+        &known.boundaries,
+        rows,
+        &known.groups,
         groups.into_items(),
-        default_points.into_items(),
-    );
-    match built {
-        Ok(groups) => Ok(Topology {
-            code,
-            groups,
-            points,
-            point_groups,
-            peers,
-        }),
-        Err(fault) => Err(want_of_memory(fault)),
-    }
+        servers.default_points.into_items(),
+    )?;
+    Ok(Topology {
+        code,
+        boundary_count,
+        group_count,
+        groups,
+        points: servers.points,
+        point_groups: servers.point_groups,
+        peers: servers.peers,
+    })
 }
 
-/// The topology of rows in which the first pass found no fault.
-fn second_of(alloc: Global, text: TopologyText) -> Result<Topology, Stop>
-    requires few { IsFew text }
-    requires modest { All IsModest text.groups }
-    requires sound { All (λ row. IsSound row.1) text.boundaries }
-    ensures { Gives result (unless_faulty (second_pass text) (topology_of text)) }
+/// The topology of rows, or the first fault of their names.
+fn checked(alloc: Global, text: TopologyText) -> Result<Topology, Placed>
+    requires few { AreFewGroups text.sites × AreFewServers text.servers }
+    requires sound { All (λ row. IsSound row.1) text.sites.boundaries }
+    ensures said { IfOk result (λ topology. checked text ≡ Ok topology) }
+    ensures wrong { IfErr result (λ placed. placed.trouble ≢ Memory → checked text ≡ Err placed) }
 {
-    if let Some(placed) = second_pass_fault(alloc, &text)? {
-        return Err(Stop::Fault(placed));
+    let known = Known::of(alloc, &text)?;
+    if let Some(fault) = second_pass_fault(&known, &text) {
+        return Err(fault);
     }
-    Ok(topology_of(alloc, text)?)
+    Ok(topology_of(alloc, &known, text)?)
 }
 
-/// The topology of a document that has this code.
-fn first_of(alloc: Global, table: &Table, code: SiteCode) -> Result<Topology, Stop>
-    requires { code_said (get_member (codes "code") (table_view table.now)) ≡ Ok code }
-    ensures { Gives result (outcome (table_view table.now)) }
+/// The topology of a document, or its first fault.
+fn topology_in(alloc: Global, table: &Table) -> Result<Topology, Placed>
+    ensures said { IfOk result (λ topology. both_passes (table_view table.now) ≡ Ok topology) }
+    ensures wrong { IfErr result (λ placed. placed.trouble ≢ Memory → both_passes (table_view table.now) ≡ Err placed) }
 {
-    if let Some(placed) = first_pass_fault(table) {
-        return Err(Stop::Fault(placed));
-    }
-    let text = text_of(alloc, table, code)?;
-    second_of(alloc, text)
-}
-
-/// The topology of a document.
-fn topology_in(alloc: Global, table: &Table) -> Result<Topology, Stop>
-    ensures { Gives result (outcome (table_view table.now)) }
-{
-    match code_at(table, "code") {
-        Ok(code) => first_of(alloc, table, code),
-        Err(trouble) => Err(Stop::Fault(trouble.at(0, 0))),
-    }
+    let text = text_of(alloc, table)?;
+    checked(alloc, text)
 }
 
 /// The topology that a text in TOML says, or its first fault: `NotToml` exactly where `toml` refuses the text, and not for want of
@@ -200,7 +184,6 @@ pub fn read_topology(alloc: Global, bytes: &[u8]) -> Result<Topology, TopoFault>
     };
     match topology_in(alloc, &table) {
         Ok(topology) => Ok(topology),
-        Err(Stop::Memory) => Err(TopoFault::Memory),
-        Err(Stop::Fault(placed)) => Err(placed.fault()),
+        Err(placed) => Err(placed.fault()),
     }
 }

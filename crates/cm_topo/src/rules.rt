@@ -39,3 +39,13 @@ pub(crate) const MOST_MINUTES: u16 = 10_000;
 pub(crate) const MOST_PRIORITY: u16 = 255;
 
 pub(crate) const MOST_CONNECTIONS: u16 = 65_535;
+
+pub(crate) const MOST_BOUNDARIES: usize = 2000;
+
+pub(crate) const MOST_GROUPS: usize = 500;
+
+pub(crate) const MOST_POINTS: usize = 64;
+
+pub(crate) const MOST_POINT_GROUPS: usize = 64;
+
+pub(crate) const MOST_PEERS: usize = 5000;

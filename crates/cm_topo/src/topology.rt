@@ -9,6 +9,10 @@ use cm_points::{Point, PointGroup};
 #[derive(Drop)]
 pub struct Topology {
     pub code: SiteCode,
+    /// How many boundaries the text has.
+    pub boundary_count: usize,
+    /// How many groups the text has; the default group is not counted.
+    pub group_count: usize,
     /// The boundary groups, with the default group as number 0.
     pub groups: Groups,
     pub points: List<Point>,

@@ -3,6 +3,7 @@ ghost use Rattle.std.specs.Prelude.{◌≡◌};
 ghost use Rattle.cm_topo.specs.Troubles.{fault_at};
 
 use crate::placed::Placed;
+use cm_base::Memory as NoMemory;
 
 /// What is wrong with a value.
 #[derive(Clone, Copy, Debug, PartialEq, Eq)]
@@ -11,6 +12,19 @@ pub(crate) enum Trouble {
     Shape,
     /// It breaks the rule of this number.
     Broken(u8),
+    /// There was no memory for what it says.
+    Memory,
+}
+
+impl From<NoMemory> for Trouble {
+    ghost use Rattle.std.specs.Prelude.{◌≡◌};
+    ghost use Rattle.cm_topo.specs.declared.trouble.Trouble.TheVariants.{Memory};
+
+    ghost from_gives = { λ _ trouble. trouble ≡ Memory };
+
+    fn from(_error: NoMemory) -> Trouble {
+        Trouble::Memory
+    }
 }
 
 impl Trouble {

@@ -189,6 +189,8 @@ fn options_of(number: u16) -> Options {
 fn clients_have_their_groups(rt: HostRuntime) -> Result<(), Fail> {
     let topology = topology(rt.alloc())?;
     assert_eq!(rt; topology.code.as_bytes(), b"PS1".as_slice());
+    assert_eq!(rt; topology.boundary_count, 4);
+    assert_eq!(rt; topology.group_count, 3);
     let groups = &topology.groups;
     for (text, site, wanted) in CLIENTS {
         let site = SiteName::read(site.as_bytes());
@@ -232,7 +234,7 @@ fn clients_reach_further_groups(rt: HostRuntime) -> Result<(), Fail> {
 }
 
 #[test]
-fn points_are_as_written(rt: HostRuntime) -> Result<(), Fail> {
+fn points_point_groups_and_peers_are_as_written(rt: HostRuntime) -> Result<(), Fail> {
     let topology = topology(rt.alloc())?;
     let points = topology.points.items();
     assert_eq!(rt; points.len(), POINTS.len());
@@ -242,12 +244,6 @@ fn points_are_as_written(rt: HostRuntime) -> Result<(), Fail> {
         assert!(rt; is_site(&point.site, site), "{name}");
         assert!(rt; are_sources(&point.sources, sources), "{name}");
     }
-    Ok(())
-}
-
-#[test]
-fn peers_and_point_groups_are_as_written(rt: HostRuntime) -> Result<(), Fail> {
-    let topology = topology(rt.alloc())?;
     let peers = topology.peers.items();
     assert_eq!(rt; peers.len(), PEERS.len());
     for (peer, (name, at, site, connections)) in peers.iter().zip(PEERS.as_slice()) {

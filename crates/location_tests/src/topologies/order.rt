@@ -282,15 +282,10 @@ const SERVERS_SECOND: [Row; 9] = [
 ];
 
 #[test]
-fn the_first_of_two_faults_of_the_first_pass(rt: HostRuntime) -> Result<(), Fail> {
+fn the_first_of_two_faults_is_answered(rt: HostRuntime) -> Result<(), Fail> {
     let alloc = rt.alloc();
     are_faults(&rt, alloc, &GROUPS_FIRST)?;
-    are_faults(&rt, alloc, &SERVERS_FIRST)
-}
-
-#[test]
-fn the_first_of_two_faults_of_the_second_pass(rt: HostRuntime) -> Result<(), Fail> {
-    let alloc = rt.alloc();
+    are_faults(&rt, alloc, &SERVERS_FIRST)?;
     are_faults(&rt, alloc, &GROUPS_SECOND)?;
     are_faults(&rt, alloc, &SERVERS_SECOND)
 }

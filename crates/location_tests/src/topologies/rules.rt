@@ -398,16 +398,11 @@ const PEERS: [Row; 20] = [
 ];
 
 #[test]
-fn faults_of_boundaries_and_groups(rt: HostRuntime) -> Result<(), Fail> {
+fn each_fault_has_its_place(rt: HostRuntime) -> Result<(), Fail> {
     let alloc = rt.alloc();
     are_faults(&rt, alloc, &BOUNDARIES)?;
     are_faults(&rt, alloc, &GROUPS)?;
-    are_faults(&rt, alloc, &RELATIONS)
-}
-
-#[test]
-fn faults_of_servers(rt: HostRuntime) -> Result<(), Fail> {
-    let alloc = rt.alloc();
+    are_faults(&rt, alloc, &RELATIONS)?;
     are_faults(&rt, alloc, &POINTS)?;
     are_faults(&rt, alloc, &SOURCES)?;
     are_faults(&rt, alloc, &POINT_GROUPS)?;

@@ -95,6 +95,8 @@ fn unknown_keys_are_passed_over(rt: HostRuntime) -> Result<(), Fail> {
     assert_eq!(rt; topology.points.items().len(), 2);
     assert_eq!(rt; topology.point_groups.items().len(), 1);
     assert_eq!(rt; topology.peers.items().len(), 1);
+    assert_eq!(rt; topology.boundary_count, 1);
+    assert_eq!(rt; topology.group_count, 2);
     Ok(())
 }
 

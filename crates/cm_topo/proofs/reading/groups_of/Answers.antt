@@ -1,10 +1,9 @@
-use Rattle.toml.specs.Data.{get_member}
-use Rattle.std.proofs.Common.{codes}
-use Rattle.toml.specs.View.{table_view}
-use Rattle.cm_topo.specs.Keys.{items_of}
-use Rattle.cm_topo.proofs.Modest.{modest_rows}
+use Rattle.std.proofs.Common.{ap, arith, length}
+use Rattle.cm_topo.proofs.Given.{few_texts}
 use Rattle.cm_topo.proofs.reading.groups_of.Goals as goal
 
-pub returns-clause-modest : goal.returns-clause-modest
-returns-clause-modest c =
-    modest_rows c.group_rows.result (items_of (get_member (codes "group") (table_view c.args.table.now))) _ c.items_or_none.ensures c.requires.relations c.group_rows.ensures.rows
+pub returns-clause-few : goal.returns-clause-few
+returns-clause-few c = record {
+  boundaries = omega (arith, ap length c.of.ensures, c.in_ok-boundaries.ensures.few);
+  groups = omega (arith, ap length c.of-2.ensures, few_texts c.in_ok-groups-2.groups.items c.in_ok-groups.groups.items c.in_ok-relations.relations.items c.in_ok-groups-2.ensures, c.in_ok-groups.ensures.few);
+}

@@ -4,4 +4,4 @@ use Rattle.cm_topo.specs.Troubles.{each_entry, first}
 use Rattle.cm_topo.proofs.second_pass.relations_fault.Given as goal
 
 abbrev pub invariant-loop-entry : goal.invariant-loop-entry
-invariant-loop-entry l = first (each_entry 3 (λ _ text. group_relations_refer l.groups text) 0 l.texts) ≡ first (each_entry 3 (λ _ text. group_relations_refer l.groups text) l.entry (drop l.entry l.texts))
+invariant-loop-entry l = first (each_entry 3 (group_relations_refer l.known) 0 l.texts) ≡ first (each_entry 3 (group_relations_refer l.known) l.entry (drop l.entry l.texts))

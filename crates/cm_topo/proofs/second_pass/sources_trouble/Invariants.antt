@@ -5,4 +5,4 @@ use Rattle.cm_topo.specs.Troubles.{first}
 use Rattle.cm_topo.proofs.second_pass.sources_trouble.Given as goal
 
 abbrev pub invariant-loop-source : goal.invariant-loop-source
-invariant-loop-source l = first (flat_map (source_refers l.points l.name) l.sources) ≡ first (flat_map (source_refers l.points l.name) (drop l.source-index l.sources))
+invariant-loop-source l = first (flat_map (source_refers l.known l.name) l.sources) ≡ first (flat_map (source_refers l.known l.name) (drop l.source-index l.sources))

@@ -1,7 +1,0 @@
-use Rattle.std.proofs.Common.{◌≡◌, drop}
-use Rattle.cm_topo.specs.SecondPass.{group_refers}
-use Rattle.cm_topo.specs.Troubles.{each_entry, first}
-use Rattle.cm_topo.proofs.second_pass.groups_fault.Given as goal
-
-abbrev pub invariant-loop-entry : goal.invariant-loop-entry
-invariant-loop-entry l = first (each_entry 2 (group_refers l.boundaries l.groups l.points) 0 l.texts) ≡ first (each_entry 2 (group_refers l.boundaries l.groups l.points) l.entry (drop l.entry l.texts))
