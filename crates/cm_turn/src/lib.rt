@@ -4,8 +4,6 @@
 mod rule;
 mod seat;
 mod steps;
-#[cfg(test)]
-mod tests;
 mod told;
 mod turnstile;
 

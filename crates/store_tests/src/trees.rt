@@ -167,19 +167,19 @@ fn forms_of_paths(rt: HostRuntime) {
     }
 }
 
-// Files that are gathered with these limits, or scanned where there are none: their answer, where no call of the folder fails,
-// and how many calls it comes after. A call more fails after it; each call up to there gives a fault of the folder.
-#[derive(Clone, Copy)]
-struct Walk<'a> {
-    files: &'a [(&'a [u8], &'a [u8])],
-    limits: Option<(u32, u32)>,
-    calls: u64,
-    fault: Option<ScanFault>,
-}
+// Files that are gathered with these limits, or scanned where there are none; how many calls of the folder their answer comes
+// after, and that answer, where no call fails. A call more fails after it; each call up to there gives a fault of the folder.
+type Walk<'a> = (
+    &'a [(&'a [u8], &'a [u8])],
+    Option<(u32, u32)>,
+    u64,
+    Option<ScanFault>,
+);
 
 fn fault_at(rt: &HostRuntime, walk: &Walk, call: u64) -> Result<Option<ScanFault>, Fail> {
-    let mut folder = folder_of(rt, walk.files, &[], &[call])?;
-    Ok(match walk.limits {
+    let (files, limits, _, _) = *walk;
+    let mut folder = folder_of(rt, files, &[], &[call])?;
+    Ok(match limits {
         None => scan(rt.alloc(), &mut folder).err(),
         Some((most_files, most_bytes)) => {
             gather(rt.alloc(), &mut folder, most_files.min(20_000), most_bytes).err()
@@ -188,12 +188,13 @@ fn fault_at(rt: &HostRuntime, walk: &Walk, call: u64) -> Result<Option<ScanFault
 }
 
 fn is_answered(rt: &HostRuntime, walk: &Walk) -> Result<bool, Fail> {
-    for call in 0..walk.calls {
+    let (_, _, calls, fault) = *walk;
+    for call in 0..calls {
         if fault_at(rt, walk, call)? != Some(ScanFault::Folder) {
             return Ok(false);
         }
     }
-    Ok(fault_at(rt, walk, walk.calls)? == walk.fault)
+    Ok(fault_at(rt, walk, calls)? == fault)
 }
 
 // The calls are: the path past the most, then for each file its path and its readings until one is empty, and last, where there
@@ -210,74 +211,19 @@ fn each_call_fails_in_turn(rt: HostRuntime) -> Result<(), Fail> {
     let same_path = Some(ScanFault::SamePath { entry: 1 });
     let too_long = Some(ScanFault::FileTooLong { entry: 0 });
     let too_many = Some(ScanFault::TooManyFiles);
-    let walks = [
-        Walk {
-            files: &good,
-            limits: None,
-            calls: 7,
-            fault: None,
-        },
-        Walk {
-            files: &good,
-            limits: Some((2, 3)),
-            calls: 6,
-            fault: None,
-        },
-        Walk {
-            files: &good,
-            limits: Some((2, 2)),
-            calls: 3,
-            fault: too_long,
-        },
-        Walk {
-            files: &good,
-            limits: Some((1, 3)),
-            calls: 1,
-            fault: too_many,
-        },
-        Walk {
-            files: &off,
-            limits: None,
-            calls: 5,
-            fault: bad_path,
-        },
-        Walk {
-            files: &off,
-            limits: Some((2, 3)),
-            calls: 5,
-            fault: bad_path,
-        },
+    let walks: [Walk; 11] = [
+        (&good, None, 7, None),
+        (&good, Some((2, 3)), 6, None),
+        (&good, Some((2, 2)), 3, too_long),
+        (&good, Some((1, 3)), 1, too_many),
+        (&off, None, 5, bad_path),
+        (&off, Some((2, 3)), 5, bad_path),
         // That there is one too many comes before a path that is off its form.
-        Walk {
-            files: &off,
-            limits: Some((1, 3)),
-            calls: 1,
-            fault: too_many,
-        },
-        Walk {
-            files: &same,
-            limits: None,
-            calls: 4,
-            fault: same_path,
-        },
-        Walk {
-            files: &same,
-            limits: Some((2, 0)),
-            calls: 4,
-            fault: same_path,
-        },
-        Walk {
-            files: &most,
-            limits: Some((1, 65_536)),
-            calls: 4,
-            fault: None,
-        },
-        Walk {
-            files: &more,
-            limits: Some((1, 65_536)),
-            calls: 4,
-            fault: too_long,
-        },
+        (&off, Some((1, 3)), 1, too_many),
+        (&same, None, 4, same_path),
+        (&same, Some((2, 0)), 4, same_path),
+        (&most, Some((1, 65_536)), 4, None),
+        (&more, Some((1, 65_536)), 4, too_long),
     ];
     for walk in walks.iter() {
         assert!(rt; is_answered(&rt, walk)?);

@@ -1,82 +1,14 @@
-//! A value that counts, worked on by several seats in one thread and in many.
-mod tally;
-
+//! A tally, worked on by several seats in one thread and in many.
 ghost use Rattle.std.specs.Prelude.{◌≡◌, ◌<◌, ◌+◌};
-ghost use Rattle.std.specs.Thread.{IsSync};
 
-use crate::{Seat, Turnstile};
-use std::alloc::Global;
+use crate::workers::add_and_read;
+use crate::{Entry, Tally, run};
+use cm_turn::{Seat, Turnstile};
 use std::sync::Wait;
 use std::test::Fail;
-use std::thread::{Threads, join_mut};
-use tally::{Add, At, Entry, Tally};
 
 /// How many turns with an entry each worker takes.
 const TURNS: u64 = 1000;
-
-/// Adds an entry, and reads at its place in a later turn of the same seat. Whether that read shows the entry.
-fn add_and_read<R: Wait>(
-    rt: &R,
-    turnstile: &Turnstile<Tally>,
-    seat: &mut Seat<Tally>,
-    entry: Entry,
-) -> bool
-    requires here { seat.old.at ≡ turnstile.now }
-    ensures here { seat.new.at ≡ seat.old.at }
-    ensures parts { seat.new.view.parts ≡ seat.old.view.parts }
-{
-    match turnstile.turn(rt, seat, Add { entry }) {
-        Ok(place) => turnstile.turn(rt, seat, At { place }) == Some(entry),
-        Err(_) => false,
-    }
-}
-
-/// So many turns of one worker, each with an entry, and a read after each. How many of the reads show the entry.
-fn work<R: Wait>(rt: &R, turnstile: &Turnstile<Tally>, seat: &mut Seat<Tally>, worker: u64) -> u64
-    requires here { seat.old.at ≡ turnstile.now }
-    ensures here { seat.new.at ≡ seat.old.at }
-    ensures parts { seat.new.view.parts ≡ seat.old.view.parts }
-{
-    let mut shown = 0;
-    for number in 0..TURNS {
-        if add_and_read(rt, turnstile, seat, Entry { worker, number }) {
-            shown += 1;
-        }
-    }
-    shown
-}
-
-/// Works through the seat and so many others, each in a thread of its own. How many reads show their entry.
-fn spread<R: Threads + Wait + Sync>(
-    rt: &R,
-    turnstile: &Turnstile<Tally>,
-    seat: &mut Seat<Tally>,
-    others: u64,
-) -> u64
-    requires here { seat.old.at ≡ turnstile.now }
-    requires parts { others < seat.old.view.parts }
-    ensures here { seat.new.at ≡ seat.old.at }
-    ensures parts { seat.new.view.parts ≡ seat.old.view.parts }
-{
-    if others == 0 {
-        return work(rt, turnstile, seat, 0);
-    }
-    let rest = others - 1;
-    let mut other = turnstile.split(seat);
-    let (mine, theirs) = join_mut(
-        rt,
-        &mut || -> u64
-            requires { IsSync R.row × (seat.now.at ≡ turnstile.now) × (rest < seat.now.view.parts) }
-            ensures { (seat.exit.now.at ≡ seat.entry.now.at) × (seat.exit.now.view.parts ≡ seat.entry.now.view.parts) }
-        { spread(rt, turnstile, seat, rest) },
-        &mut || -> u64
-            requires { other.at ≡ turnstile.now }
-            ensures { (other.exit.at ≡ other.entry.at) × (other.exit.view.parts ≡ other.entry.view.parts) }
-        { work(rt, turnstile, &mut other, others) },
-    );
-    turnstile.join(seat, other);
-    mine.saturating_add(theirs)
-}
 
 /// Whether each of so many workers has each of its entries once, in its order, and no other entry is there.
 fn is_complete(told: &[Entry], workers: usize) -> bool {
@@ -162,12 +94,9 @@ fn seats_are_split_and_joined_in_any_order(rt: HostRuntime) -> Result<(), Fail> 
 #[test]
 fn threads_add_each_entry_once_and_in_order(rt: HostRuntime) -> Result<(), Fail> {
     for workers in [2, 16] {
-        let tally = Tally::new(rt.alloc(), 7);
-        let Ok((turnstile, mut seat)) = Turnstile::new(rt.alloc(), tally) else {
+        let Ok((tally, shown)) = run(&rt, rt.alloc(), workers, TURNS) else {
             return Err(Fail::new("no memory"));
         };
-        let shown = spread(&rt, &turnstile, &mut seat, workers - 1);
-        let tally = turnstile.close(seat);
         assert_eq!(rt; shown, workers * TURNS);
         assert!(rt; is_complete(tally.told(), workers as usize));
     }

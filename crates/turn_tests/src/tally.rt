@@ -1,19 +1,19 @@
 //! A value that counts its entries.
-ghost use Rattle.std.specs.Prelude.{◌≡◌, ◌≤◌, ◌^◌, ◌+◌, [], ◌∷◌, ◌++◌, length, vec_len, MatchResult, IfOk, slice_get};
+ghost use Rattle.std.specs.Prelude.{◌≡◌, ◌≤◌, ◌^◌, [], ◌∷◌, ◌++◌, vec_len, MatchResult};
 
-use crate::{Told, Work};
+use cm_turn::{Told, Work};
 use std::alloc::{AllocError, Global};
 
 /// What one turn adds: who adds it, and which of its entries it is.
 #[derive(Clone, Copy, Debug, PartialEq, Eq)]
-pub(crate) struct Entry {
-    pub(crate) worker: u64,
-    pub(crate) number: u64,
+pub struct Entry {
+    pub worker: u64,
+    pub number: u64,
 }
 
 /// A name, and entries. The count is kept beside them.
 #[derive(Drop)]
-pub(crate) struct Tally {
+pub struct Tally {
     name: u64,
     told: Vec<Entry>,
     count: u64,
@@ -22,7 +22,8 @@ pub(crate) struct Tally {
 }
 
 impl Tally {
-    pub(crate) fn new(alloc: Global, name: u64) -> Tally
+    /// A tally without entries.
+    pub fn new(alloc: Global, name: u64) -> Tally
         ensures { (result.name ≡ name) × (result.told.items ≡ []) }
     {
         Tally {
@@ -32,15 +33,21 @@ impl Tally {
         }
     }
 
-    pub(crate) fn name(&self) -> u64 {
+    /// The name it was made with.
+    pub fn name(&self) -> u64
+        ensures { result ≡ self.now.name }
+    {
         self.name
     }
 
-    pub(crate) fn told(&self) -> &[Entry] {
+    /// Its entries, the oldest first.
+    pub fn told(&self) -> &[Entry]
+        ensures { result.now ≡ self.now.told.items }
+    {
         &self.told
     }
 
-    // The place of the entry that was added.
+    // The place of the entry that was added. An Err is want of memory, or of room.
     fn add(&mut self, entry: Entry) -> Result<u64, AllocError>
         ensures name { self.new.name ≡ self.old.name }
         ensures told { MatchResult result
@@ -71,18 +78,20 @@ impl Told for Tally {
     }
 }
 
-/// Adds an entry. The answer is its place.
+/// Adds an entry. The answer is its place, or want of memory: then none is added.
 #[derive(Drop)]
-pub(crate) struct Add {
-    pub(crate) entry: Entry,
+pub struct Add {
+    pub entry: Entry,
 }
 
 impl Work<Tally> for Add {
     type Answer = Result<u64, AllocError>;
 
-    ghost use Rattle.std.specs.Prelude.{◌≡◌, IfOk, [], ◌∷◌, ◌++◌, vec_len};
+    ghost use Rattle.std.specs.Prelude.{◌≡◌, MatchResult, [], ◌∷◌, ◌++◌, vec_len};
 
-    ghost gives = { λ w before after answer. IfOk answer (λ place. (place ≡ vec_len before.told) × (after.told.items ≡ before.told.items ++ w.entry ∷ [])) };
+    ghost gives = { λ w before after answer. MatchResult answer
+        (λ place. (place ≡ vec_len before.told) × (after.told.items ≡ before.told.items ++ w.entry ∷ []))
+        (λ _. after.told.items ≡ before.told.items) };
 
     fn work(self, value: &mut Tally) -> Result<u64, AllocError> {
         value.add(self.entry)
@@ -91,8 +100,8 @@ impl Work<Tally> for Add {
 
 /// Reads the entry at a place. It adds none.
 #[derive(Drop)]
-pub(crate) struct At {
-    pub(crate) place: u64,
+pub struct At {
+    pub place: u64,
 }
 
 impl Work<Tally> for At {
@@ -100,7 +109,7 @@ impl Work<Tally> for At {
 
     ghost use Rattle.std.specs.Prelude.{◌≡◌, slice_get};
 
-    ghost gives = { λ w before after answer. answer ≡ slice_get before.told.items w.place };
+    ghost gives = { λ w before after answer. (answer ≡ slice_get before.told.items w.place) × (after.told.items ≡ before.told.items) };
 
     fn work(self, value: &mut Tally) -> Option<Entry> {
         value.told.get(self.place as usize).copied()
