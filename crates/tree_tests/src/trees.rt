@@ -71,30 +71,55 @@ fn bytes_of_three(rt: &HostRuntime) -> Result<Vec<u8>, Fail> {
     Ok(out)
 }
 
+// The spelling of a manifest, which is as long as the manifest says.
+fn spelled(rt: &HostRuntime, manifest: &Manifest) -> Result<Vec<u8>, Fail> {
+    let bytes = manifest.encode(rt.alloc()).ok().ok_or("no memory")?;
+    if bytes.len() as u64 != manifest.encoded_len() as u64 {
+        return Err(Fail::new("another length"));
+    }
+    Ok(bytes)
+}
+
+// The spelling of what a folder scans as.
+fn scanned(rt: &HostRuntime, folder: &mut impl Folder) -> Result<Vec<u8>, Fail> {
+    match scan(rt.alloc(), folder) {
+        Ok(manifest) => spelled(rt, &manifest),
+        Err(_) => Err(Fail::new("no manifest")),
+    }
+}
+
+// The spelling of a copy of the manifest that these bytes spell.
+fn read_and_copied(rt: &HostRuntime, bytes: &[u8]) -> Result<Vec<u8>, Fail> {
+    let manifest = Manifest::decode(rt.alloc(), bytes).ok().ok_or("not read")?;
+    let copy = manifest.copy(rt.alloc()).ok().ok_or("no memory")?;
+    spelled(rt, &copy)
+}
+
+// The spelling of the manifest of what is gathered of the three files, which are as they were handed in.
+fn gathered(rt: &HostRuntime) -> Result<Vec<u8>, Fail> {
+    let tree = gather(rt.alloc(), &mut three(rt, &[])?, 3, 5)
+        .ok()
+        .ok_or("no tree")?;
+    let files = tree.files();
+    let [first, _, last] = files else {
+        return Err(Fail::new("not three files"));
+    };
+    if first.path.as_bytes() != b"a.txt".as_slice()
+        || last.bytes.as_slice() != b"hello".as_slice()
+    {
+        return Err(Fail::new("other files"));
+    }
+    let manifest = tree.manifest(rt.alloc()).ok().ok_or("no memory")?;
+    spelled(rt, &manifest)
+}
+
 #[test]
 fn three_files(rt: HostRuntime) -> Result<(), Fail> {
     let bytes = bytes_of_three(&rt)?;
     assert_eq!(rt; bytes.len(), 140);
-    let manifest = scan(rt.alloc(), &mut three(&rt, &[])?)
-        .ok()
-        .ok_or("no manifest")?;
-    assert_eq!(rt; manifest.encoded_len(), 140);
-    let spelled = manifest.encode(rt.alloc()).ok().ok_or("no memory")?;
-    assert_eq!(rt; spelled.as_slice(), bytes.as_slice());
-    let read = Manifest::decode(rt.alloc(), &bytes).ok().ok_or("not read")?;
-    let copy = read.copy(rt.alloc()).ok().ok_or("no memory")?;
-    let again = copy.encode(rt.alloc()).ok().ok_or("no memory")?;
-    assert_eq!(rt; again.as_slice(), bytes.as_slice());
-    let tree = gather(rt.alloc(), &mut three(&rt, &[])?, 3, 5)
-        .ok()
-        .ok_or("no tree")?;
-    let of_tree = tree.manifest(rt.alloc()).ok().ok_or("no memory")?;
-    let spelled = of_tree.encode(rt.alloc()).ok().ok_or("no memory")?;
-    assert_eq!(rt; spelled.as_slice(), bytes.as_slice());
-    let files = tree.files();
-    assert_eq!(rt; files.len(), 3);
-    assert_eq!(rt; files[0].path.as_bytes(), b"a.txt".as_slice());
-    assert_eq!(rt; files[2].bytes.as_slice(), b"hello".as_slice());
+    assert!(rt; scanned(&rt, &mut three(&rt, &[])?)? == bytes);
+    assert!(rt; read_and_copied(&rt, &bytes)? == bytes);
+    assert!(rt; gathered(&rt)? == bytes);
     Ok(())
 }
 
@@ -246,24 +271,37 @@ fn later_bytes_come_once_a_file_was_read(rt: HostRuntime) -> Result<(), Fail> {
     Ok(())
 }
 
+// Three files below a folder of the host, and an empty folder beside them.
+fn lay_three(rt: &HostRuntime) -> Result<(), Fail> {
+    std::fs::create_dir_all(rt, "cm_tree_test/bin/none")?;
+    std::fs::write(rt, "cm_tree_test/readme", "hello")?;
+    std::fs::write(rt, "cm_tree_test/a.txt", "abc")?;
+    std::fs::write(rt, "cm_tree_test/bin/empty", "")?;
+    Ok(())
+}
+
+// The fault of a folder of the host, or its number of entries.
+fn entries_of(rt: &HostRuntime, base: &str) -> Result<Result<usize, ScanFault>, Fail> {
+    let mut folder = HostFolder::new(rt.clone()?, base).ok().ok_or("no memory")?;
+    Ok(match scan(rt.alloc(), &mut folder) {
+        Ok(manifest) => Ok(manifest.entries().len()),
+        Err(fault) => Err(fault),
+    })
+}
+
+fn bytes_of_laid(rt: &HostRuntime, base: &str) -> Result<Vec<u8>, Fail> {
+    let mut folder = HostFolder::new(rt.clone()?, base).ok().ok_or("no memory")?;
+    scanned(rt, &mut folder)
+}
+
 #[test]
 fn a_folder_of_the_host(rt: HostRuntime) -> Result<(), Fail> {
     let base = "cm_tree_test";
     let _old = std::fs::remove_dir_all(&rt, base);
-    std::fs::create_dir_all(&rt, "cm_tree_test/bin/none")?;
-    std::fs::write(&rt, "cm_tree_test/readme", "hello")?;
-    std::fs::write(&rt, "cm_tree_test/a.txt", "abc")?;
-    std::fs::write(&rt, "cm_tree_test/bin/empty", "")?;
-    let mut folder = HostFolder::new(rt.clone()?, base).ok().ok_or("no memory")?;
-    let manifest = scan(rt.alloc(), &mut folder).ok().ok_or("no manifest")?;
-    let spelled = manifest.encode(rt.alloc()).ok().ok_or("no memory")?;
-    let bytes = bytes_of_three(&rt)?;
-    assert_eq!(rt; spelled.as_slice(), bytes.as_slice());
+    lay_three(&rt)?;
+    assert!(rt; bytes_of_laid(&rt, base)? == bytes_of_three(&rt)?);
     let _gone = std::fs::remove_dir_all(&rt, base);
-    let mut gone = HostFolder::new(rt.clone()?, base).ok().ok_or("no memory")?;
-    assert!(rt; scan(rt.alloc(), &mut gone).err() == Some(ScanFault::Folder));
-    let mut none = HostFolder::new(rt.clone()?, "-").ok().ok_or("no memory")?;
-    let empty = scan(rt.alloc(), &mut none).ok().ok_or("no manifest")?;
-    assert_eq!(rt; empty.entries().len(), 0);
+    assert!(rt; entries_of(&rt, base)? == Err(ScanFault::Folder));
+    assert!(rt; entries_of(&rt, "-")? == Ok(0));
     Ok(())
 }
