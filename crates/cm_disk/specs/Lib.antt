@@ -4,6 +4,7 @@ pub mod HostNames
 pub mod Images
 pub mod Ranks
 pub mod Recorded
+pub mod Rows
 pub mod Slots
 pub mod SlotsLaws
 pub mod Stands

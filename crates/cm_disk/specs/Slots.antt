@@ -46,9 +46,3 @@ is_listed fail (Some at) number = nat_le at number || list_any (λ x. x == numbe
 abbrev pub bound_above : Option (List ℕ) → Bound (List ℕ)
 bound_above None = Unbounded
 bound_above (Some after) = Excluded after
-
--- the least place above another of those of which something is kept, with whether a file is there: each file is at such a place
-pub record IsNextKept (files : Files) (after : Option (List ℕ)) (next : Option (List ℕ × Bool)) : Type 0 where
-  pub above : IfSome next (λ n. is_above after n.0 ≡ true)
-  pub there : IfSome next (λ n. n.1 ≡ is_some (files n.0))
-  pub least : (q : List ℕ) → is_above after q ≡ true → is_some (files q) ≡ true → (n : List ℕ × Bool) × (next ≡ Some n) × ((n.0 ≡ q) ⊎ (slice_cmp nat_cmp n.0 q ≡ Less))

@@ -15,6 +15,7 @@ mod mem_disk;
 mod memory;
 mod memory_calls;
 mod places;
+mod read_ahead;
 mod slots;
 mod walk;
 

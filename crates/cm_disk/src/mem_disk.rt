@@ -1,11 +1,13 @@
 //! The calls of a disk in memory.
-ghost use Rattle.std.specs.Prelude.{◌≡◌, ◌⊎◌, ◌+◌, ◌-◌, ◌≤◌, ◌==◌, ◌∷◌, ◌++◌, [], List, true, false, nat_le, Some, None, IfOk, OnOk, OnErr, IsTrue, IsSome, ℕ, if◌then◌else◌};
+ghost use Rattle.std.specs.Prelude.{IfSome, ◌≡◌, ◌⊎◌, ◌+◌, ◌-◌, ◌≤◌, ◌==◌, ◌∷◌, ◌++◌, [], List, true, false, nat_le, Some, None, IfOk, OnOk, OnErr, IsTrue, IsSome, ℕ, if◌then◌else◌};
 ghost use Rattle.std.specs.List.{list_any};
 ghost use Rattle.std.specs.Str.{bytes_eq};
 ghost use Rattle.std.specs.Ordering.{nat_cmp};
 ghost use Rattle.std.specs.Cmp.Lexicographic.{slice_cmp};
 ghost use Rattle.std.specs.BTreeMap.{get};
 ghost use Rattle.cm_base.specs.Causes.{HasCause, Rose};
+ghost use Rattle.std.specs.Option.{option_copied};
+ghost use Rattle.cm_disk.specs.Disk.{is_above, IsNext};
 ghost use Rattle.cm_disk.specs.Images.{IsLeft};
 ghost use Rattle.cm_disk.specs.Stands.{worked};
 ghost use Rattle.cm_disk.specs.Slots.{CanDo, stand_in, stand_of, is_listed};
@@ -14,6 +16,8 @@ ghost use Rattle.cm_disk.specs.Recorded.{calls_of, files_of, number_of, is_faili
 use crate::DiskFault;
 use crate::calls::{Call, Slot, Work};
 use crate::memory::MemDisk;
+use crate::places::first_after;
+use crate::read_ahead::ReadAhead;
 use crate::slots::{absent_slot, kept_slot, work_on};
 use cm_base::{Memory, Place};
 use std::alloc::Global;
@@ -55,6 +59,7 @@ impl MemDisk {
             number: 0,
             faults: 0,
             short: 0,
+            ahead: ReadAhead::new(alloc),
         }
     }
 
@@ -143,7 +148,42 @@ impl MemDisk {
             work,
             done,
         };
+        // It may change which places are there.
+        self.ahead.clear();
         joined(self.alloc, &mut self.slots, &mut self.calls, call)
+    }
+
+    // The least place above another, of those that are there.
+    pub(crate) fn next_there(&mut self, after: Option<&Place>) -> Option<Place>
+        ensures above { IfSome result (λ next. is_above (option_copied after.entry) next ≡ true) }
+        ensures least { IsNext (files_of self.old) (option_copied after.entry) result }
+        ensures number { number_of self.new ≡ number_of self.old }
+        ensures listed { (number : ℕ) → is_failing self.new number ≡ is_failing self.old number }
+        ensures short { short_of self.new ≡ short_of self.old }
+        ensures calls { self.new.calls ≡ self.old.calls }
+        ensures faults { faults_of self.new ≡ faults_of self.old }
+    {
+        if let Some(after) = after {
+            if let Some(next) = self.ahead.step(after) {
+                return Some(next);
+            }
+        }
+        self.search(after)
+    }
+
+    // The same, by a search of the tree.
+    fn search(&mut self, after: Option<&Place>) -> Option<Place>
+        ensures above { IfSome result (λ next. is_above (option_copied after.entry) next ≡ true) }
+        ensures least { IsNext (files_of self.old) (option_copied after.entry) result }
+        ensures number { number_of self.new ≡ number_of self.old }
+        ensures listed { (number : ℕ) → is_failing self.new number ≡ is_failing self.old number }
+        ensures short { short_of self.new ≡ short_of self.old }
+        ensures calls { self.new.calls ≡ self.old.calls }
+        ensures faults { faults_of self.new ≡ faults_of self.old }
+    {
+        let many = self.ahead.many(after);
+        self.ahead.at = 0;
+        first_after(&self.slots, after, many, &mut self.ahead.places)
     }
 }
 

@@ -8,7 +8,6 @@ ghost use Rattle.cm_disk.specs.StandsLaws.{counts, only, as_it_reads, some_image
 
 use crate::calls::Work;
 use crate::memory::MemDisk;
-use crate::places::first_after;
 use crate::slots::owned;
 use crate::{Disk, DiskFault};
 use cm_base::Place;
@@ -147,7 +146,7 @@ impl Disk for MemDisk {
         if self.fails() {
             return Err(self.fault());
         }
-        Ok(first_after(&self.slots, after))
+        Ok(self.next_there(after))
     }
 
     fn faults(&self) -> u64 {

@@ -1,14 +1,14 @@
 //! The places of a disk in memory, in byte order.
-ghost use Rattle.std.specs.Prelude.{◌≡◌, ◌<◌, Some, true, IfSome};
-ghost use Rattle.std.specs.Option.{option_copied};
+ghost use Rattle.std.specs.Prelude.{◌≡◌, ◌++◌, ◌∷◌, [], List, ℕ, true, None, IfSome};
+ghost use Rattle.std.specs.Option.{option_copied, option_to_list};
 ghost use Rattle.cm_disk.specs.Disk.{is_above, IsNext};
-ghost use Rattle.cm_disk.specs.Ranks.{ahead, IsText};
-ghost use Rattle.cm_disk.specs.Slots.{stand_in, bound_above, IsNextKept};
-ghost use Rattle.hex.specs.Hex.{IsBytes};
+ghost use Rattle.cm_disk.specs.Rows.{InRow, there_of};
+ghost use Rattle.cm_disk.specs.Slots.{stand_in, bound_above};
 
 use crate::calls::Slot;
 use cm_base::Place;
 use std::collections::BTreeMap;
+use std::collections::btree_map::Range;
 use std::ops::Bound;
 
 pub(crate) fn stands_above(after: Option<&Place>, place: &Place) -> bool
@@ -20,58 +20,61 @@ pub(crate) fn stands_above(after: Option<&Place>, place: &Place) -> bool
     }
 }
 
-pub(crate) fn first_after(slots: &BTreeMap<Place, Slot>, after: Option<&Place>) -> Option<Place>
+/// The first place above another that is there. It and those behind it are read into `places`, at most so many of
+/// them, and as memory allows.
+pub(crate) fn first_after(
+    slots: &BTreeMap<Place, Slot>,
+    after: Option<&Place>,
+    many: usize,
+    places: &mut Vec<Place>,
+) -> Option<Place>
     ensures above { IfSome result (λ next. is_above (option_copied after.entry) next ≡ true) }
     ensures least { IsNext (λ q. (stand_in slots.now q).now) (option_copied after.entry) result }
+    ensures row { InRow (λ q. (stand_in slots.now q).now) places.new.items }
 {
-    let mut from = after.copied();
-    while let Some((place, is_there)) = next_kept(slots, from.as_ref()) {
-        if is_there {
-            return Some(place);
+    places.clear();
+    let mut kept = slots.range((bound_above(after), Bound::Unbounded));
+    let Some(first) = next_there(&mut kept) else {
+        return None;
+    };
+    read_more(&mut kept, first, many, places);
+    Some(first)
+}
+
+// The next of what is kept of which a file is there.
+fn next_there(kept: &mut Range<'_, Place, Slot>) -> Option<Place>
+    ensures next { there_of kept.old ≡ option_to_list result ++ there_of kept.new }
+    ensures none { result ≡ None → there_of kept.old ≡ [] }
+{
+    while let Some((place, slot)) = kept.next() {
+        if slot.file.is_some() {
+            return Some(*place);
         }
-        from = Some(place);
     }
     None
 }
 
-// The least place above another of those of which something is kept, and whether a file is there.
-fn next_kept(slots: &BTreeMap<Place, Slot>, after: Option<&Place>) -> Option<(Place, bool)>
-    ensures next { IsNextKept (λ q. (stand_in slots.now q).now) (option_copied after.entry) result }
-    ensures nearer { IfSome result (λ next. ahead (Some next.0) < ahead (option_copied after.entry)) }
+// Reads a place and those behind it.
+fn read_more(
+    kept: &mut Range<'_, Place, Slot>,
+    first: Place,
+    many: usize,
+    places: &mut Vec<Place>,
+)
+    requires { places.old.items ≡ [] }
+    ensures { (behind : List (List ℕ)) × (first ∷ there_of kept.old ≡ places.new.items ++ behind) }
 {
-    let mut kept = slots.range((bound_above(after), Bound::Unbounded));
-    match kept.next() {
-        Some((place, slot)) => {
-            show_nearer(after, place);
-            Some((*place, slot.file.is_some()))
+    if places.push(first).is_err() {
+        return;
+    }
+    for _ in 1..many {
+        let Some(place) = next_there(kept) else {
+            return;
+        };
+        if places.push(place).is_err() {
+            return;
         }
-        None => None,
     }
-}
-
-// A place above another is nearer to the end.
-fn show_nearer(after: Option<&Place>, place: &Place)
-    ensures { is_above (option_copied after.entry) place.now ≡ true → ahead (Some place.now) < ahead (option_copied after.entry) }
-{
-    show_text(place);
-    match after {
-        Some(after) => show_text(after),
-        None => {}
-    }
-}
-
-// A place is a text.
-fn show_text(place: &Place)
-    ensures { IsText place.now }
-{
-    show_bytes(place.as_bytes());
-}
-
-// Bytes are below 256.
-fn show_bytes(text: &[u8])
-    ensures { IsBytes text.now }
-{
-    let _many = text.len();
 }
 
 fn bound_above(after: Option<&Place>) -> Bound<Place>
