@@ -89,9 +89,9 @@ rising-sorted : (es : List (List ℕ × Slot)) → IsStrictlySortedBy (slice_cmp
 unfolding AreRising
 rising-sorted [] sorted = tt
 rising-sorted (e ∷ es) sorted = (
-    λ q slot has. has_all (λ p. slice_cmp nat_cmp e.0 p ≡ Less) es q slot (All-after_first (slice_cmp nat_cmp) e.0 (keys_of es) sorted) has,
-    rising-sorted es (sorted_tail (slice_cmp nat_cmp) e.0 (keys_of es) sorted),
-  )
+  λ q slot has. has_all (λ p. slice_cmp nat_cmp e.0 p ≡ Less) es q slot (All-after_first (slice_cmp nat_cmp) e.0 (keys_of es) sorted) has,
+  rising-sorted es (sorted_tail (slice_cmp nat_cmp) e.0 (keys_of es) sorted),
+)
 
 -- what a look-up finds is one of the entries, and what is one of them is found
 has-lookup : (es : List (List ℕ × Slot)) (q : List ℕ) (slot : Slot) → lookup (is_at (slice_cmp nat_cmp q)) es ≡ Some slot → Has es q slot
@@ -173,13 +173,13 @@ left_of : (m : Slots) (es : List (List ℕ × Slot)) (at : Option (List ℕ)) �
 unfolding Has AreRising Left
 left_of m [] at rising from all = λ q above. false_from_ne_true _ (λ there. let slot = entry_there (get (slice_cmp nat_cmp) m q) there in all q slot.0 above slot.1)
 left_of m (e ∷ es) at rising from all = (
-    record {
-      above = first.0;
-      here = first.1;
-      least = λ q above there. let slot = entry_there (get (slice_cmp nat_cmp) m q) there in here_or_later q slot.0 (all q slot.0 above slot.1);
-    },
-    left_of m es (Some e.0) rising.1 (λ q slot has. (ap is_lt (rising.0 q slot has), (from q slot (inr has)).1)) (λ q slot above is. later q slot above (all q slot (above_from at e.0 q first.0 above) is)),
-  )
+  record {
+    above = first.0;
+    here = first.1;
+    least = λ q above there. let slot = entry_there (get (slice_cmp nat_cmp) m q) there in here_or_later q slot.0 (all q slot.0 above slot.1);
+  },
+  left_of m es (Some e.0) rising.1 (λ q slot has. (ap is_lt (rising.0 q slot has), (from q slot (inr has)).1)) (λ q slot above is. later q slot above (all q slot (above_from at e.0 q first.0 above) is)),
+)
   where
     first : (is_above at e.0 ≡ true) × (get (slice_cmp nat_cmp) m e.0 ≡ Some e.1)
     first = from e.0 e.1 (inl refl)
@@ -226,13 +226,13 @@ module _ (files : Files) (at : Option (List ℕ)) (p : List ℕ) (above : is_abo
   unfolding Follows
   passed [] none = λ q high. false_from_ne_true _ (λ there. let f : is_some (files q) ≡ false = none q (past q high there) in absurd (cc))
   passed (n ∷ ps) more = (
-      record {
-        above = above_from at p n above more.0.above;
-        there = more.0.there;
-        least = λ q high there. more.0.least q (past q high there) there;
-      },
-      more.1,
-    )
+    record {
+      above = above_from at p n above more.0.above;
+      there = more.0.there;
+      least = λ q high there. more.0.least q (past q high there) there;
+    },
+    more.1,
+  )
 
 first_step : (m : Slots) (at : Option (List ℕ)) (e : List ℕ × Slot) → IsFirst m at e → is_some (kept_in m e.0) ≡ true → IsStep (kept_in m) at e.0
 first_step m at e first there = record {

@@ -1,6 +1,5 @@
 -- What a disk in memory keeps of each place.
-use Rattle.std.specs.Prelude.{◌≡◌, ◌⊎◌, ◌+◌, ◌^◌, ◌≤◌, ℕ, List, length, Option, None, Some, IfSome, is_some, Bool, true, ◌||◌, ◌==◌, nat_le, option_map, Vec}
-use Rattle.std.specs.declared.cmp.Ordering.TheVariants.{Less}
+use Rattle.std.specs.Prelude.{◌+◌, ◌^◌, ◌≤◌, ℕ, List, length, Option, None, Some, Bool, ◌||◌, ◌==◌, nat_le, option_map, Vec}
 use Rattle.std.specs.declared.ops.Bound.{Bound}
 use Rattle.std.specs.declared.ops.Bound.TheVariants.{Excluded, Unbounded}
 use Rattle.std.specs.List.{list_any}
@@ -11,7 +10,6 @@ use Rattle.std.specs.declared.alloc.Global.{Global}
 use Rattle.cm_disk.specs.declared.calls.Slot.{Slot}
 use Rattle.cm_disk.specs.declared.calls.Work.{Work}
 use Rattle.cm_disk.specs.declared.calls.Work.TheVariants.{Write, Cut, Remove, Sync}
-use Rattle.cm_disk.specs.Disk.{Files, is_above}
 use Rattle.cm_disk.specs.Images.{Stand}
 use Rattle.cm_disk.specs.Stands.{absent}
 

@@ -1,4 +1,5 @@
--- What a ghost field of the disk in memory names: that slots agree with calls is a bare fact.
+-- What a ghost field of the disk in memory names: that slots agree with calls is a bare fact. A ghost field can name nothing
+-- outside of specs/.
 use Rattle.std.specs.Prelude.{◌≡◌, ℕ, List}
 use Rattle.std.specs.BTreeMap.{BTreeMap}
 use Rattle.std.proofs.Props.{props}

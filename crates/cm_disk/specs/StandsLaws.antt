@@ -1,4 +1,5 @@
--- What the laws of a disk in memory name, of a record of calls.
+-- What the laws of a disk in memory name, of a record of calls. These lemmas stand here, and not in proofs/, since a law of an
+-- impl can name nothing outside of specs/.
 use Rattle.std.specs.Prelude.{◌≡◌, ◌⊎◌, ℕ, ◌+◌, ◌^◌, ◌<◌, ◌≤◌, ◌==◌, Bool, true, false, if◌then◌else◌, ◌&&◌, ◌||◌, nat_le, nat_lt, List, [], ◌∷◌, ◌++◌, length, take, drop, None, Some, slice_get}
 use Rattle.std.specs.Str.{bytes_eq}
 use Rattle.std.proofs.Common.{inl, inr, zero, suc, refl, sym, ◌∙◌, ap, subst, arith}

@@ -1,4 +1,4 @@
--- What the laws of a disk that tells nothing name.
+-- What the laws of a disk that tells nothing name. A law of an impl can name nothing outside of specs/.
 use Rattle.std.specs.Prelude.{◌≡◌, ℕ, Option, None, Some}
 use Rattle.std.proofs.Common.{arith}
 use Rattle.std.proofs.lemmas.Option.{none-some}

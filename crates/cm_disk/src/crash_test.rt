@@ -35,6 +35,8 @@ enum Failing {
 /// `run` begins with an empty disk. Device call 0 fails, and all after it; then 1 and all after it; and so on, until a
 /// run meets no failing call. Then the same again with one failing call each. After each run `look` is handed what the
 /// run gave, and each of the three images of a crash at its end. It tells whether that image is as it must be.
+///
+/// No clause promises this: what both closures answer at each disk would have to be told, run by run. It is for tests.
 pub fn at_each_crash<T, R, L>(alloc: Global, run: R, look: L) -> Result<(), CrashFault>
 where
     T: Drop,

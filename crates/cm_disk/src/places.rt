@@ -55,12 +55,7 @@ fn next_there(kept: &mut Range<'_, Place, Slot>) -> Option<Place>
 }
 
 // Reads a place and those behind it.
-fn read_more(
-    kept: &mut Range<'_, Place, Slot>,
-    first: Place,
-    many: usize,
-    places: &mut Vec<Place>,
-)
+fn read_more(kept: &mut Range<'_, Place, Slot>, first: Place, many: usize, places: &mut Vec<Place>)
     requires { places.old.items ≡ [] }
     ensures { (behind : List (List ℕ)) × (first ∷ there_of kept.old ≡ places.new.items ++ behind) }
 {

@@ -1,6 +1,6 @@
 -- A record more, in the words of the shelf.
 use Rattle.std.proofs.Common.{◌≡◌, ◌⊎◌, inl, inr, ⊎_elim, ℕ, ◌+◌, ◌<◌, ◌≤◌, List, [], ◌∷◌, ◌++◌, length, take, get_or, refl, sym, ◌∙◌, ap, subst, arith, length-append}
-use Rattle.std.specs.Prelude.{◌≢◌, Bool, true, false, ◌==◌, Result, Ok, Err, OnErr}
+use Rattle.std.specs.Prelude.{◌≢◌, Bool, true, false, ◌==◌, Ok}
 use Rattle.std.proofs.lemmas.Bool.Decides.{nat_tests}
 use Rattle.cm_disk.specs.Disk.{File, Files, bytes_of, IsImage, Only, LeavesNoMore}
 use Rattle.cm_log.specs.declared.shelf.Shelf.{Shelf}

@@ -10,7 +10,7 @@ use Rattle.cm_log.specs.declared.shelf.Side.{Side}
 use Rattle.cm_log.specs.declared.shelf.Side.TheVariants.{First, Second}
 use Rattle.cm_log.specs.declared.head.Head.{Head}
 use Rattle.cm_log.specs.declared.head.Choice.{Choice}
-use Rattle.cm_log.specs.Shelves.{ready_place, log_place, IsElsewhere, IsNoLog}
+use Rattle.cm_log.specs.Shelves.{ready_place, log_place, IsNoLog}
 use Rattle.cm_log.specs.Heads.{head_of, choice}
 use Rattle.cm_log.specs.Logs.{NoLog, Live, reading_at, head_at, told_by, shelved_by, shelved, IsLook, fresh}
 use Rattle.cm_log.specs.Settled.{live_log, idle_log, HasLogs, Makes, Rests, IsMaking}

@@ -1,12 +1,11 @@
 -- How the calls on a log end, one record an outcome.
-use Rattle.std.specs.Prelude.{◌≡◌, ◌≢◌, ◌⊎◌, ℕ, ◌+◌, ◌^◌, ◌<◌, ◌≤◌, Bool, true, false, if◌then◌else◌, List, length, Result, IsErrOf, OnOk}
-use Rattle.cm_base.specs.Causes.{Rose}
+use Rattle.std.specs.Prelude.{◌≡◌, ℕ, ◌+◌, ◌^◌, ◌<◌, ◌≤◌, Bool, true, false, if◌then◌else◌, List, length, Result, IsErrOf, OnOk}
 use Rattle.cm_disk.specs.Disk.{File, Files}
 use Rattle.cm_log.specs.declared.faults.AppendFault.{AppendFault}
 use Rattle.cm_log.specs.declared.faults.AppendFault.TheVariants.{TooLong, Full}
 use Rattle.cm_log.specs.declared.state.Log.{Log}
 use Rattle.cm_log.specs.declared.position.LogReader.{LogReader}
-use Rattle.cm_log.specs.Settled.{shelf_of, place_of, end_of, end_with_of, number_of, is_settled, reader_shelf, reader_place, reader_at, reader_number, has_ended, IsSettled, Stands}
+use Rattle.cm_log.specs.Settled.{shelf_of, place_of, end_of, end_with_of, number_of, is_settled, reader_at, reader_number, has_ended, IsSettled, Stands}
 
 -- it is the log of the same file
 pub record IsSameLog (old new : Log) : Type 0 where

@@ -29,8 +29,11 @@ pub(crate) fn commit<D: Disk>(
 {
     let mut buffer = [0u8; 65541];
     let count = assemble(&mut buffer, body);
-    disk.write_at(place, end + 1, &buffer[..count])?;
-    disk.sync(place)?;
+    let staged = disk.write_at(place, end + 1, &buffer[..count]);
+    staged?;
+    let preserved = disk.sync(place);
+    preserved?;
+    // Only now: before the record is durable, an open gate could stand before torn bytes after a crash.
     disk.write_at(place, end, &[1])?;
     disk.sync(place)?;
     Ok(())

@@ -1,4 +1,6 @@
-//! The log of a shelf: records behind gate bytes, of which an append opens one only when all behind it is durable.
+//! The log of a shelf, in which one byte decides. A record is made durable behind the closed gate; then the gate is
+//! opened by a write of one byte, and synced. `ready` is made last, and all three places are synced before they are
+//! read. See docs/crash.md.
 #![tactic(auto)]
 
 mod block;

@@ -72,15 +72,10 @@ fn make_logs<D: Disk>(disk: &mut D, shelf: Shelf) -> Result<(), DiskFault>
     ensures alone { LeavesAlone (IsNoLog shelf) D.reads D.may_leave D.moment D.left_since D.faults disk.old disk.new }
     ensures cause { HasCause (D.faults disk.old) (D.faults disk.new) result }
 {
-    write_file(
-        disk,
-        &log_at(shelf, Side::First),
-        &[1, 1, 1, 0, 0, 0, 0, 0, 0, 0, 0],
-    )?;
-    write_file(
-        disk,
-        &log_at(shelf, Side::Second),
-        &[0, 1, 0, 0, 0, 0, 0, 0, 0, 0, 0],
-    )?;
+    let first = log_at(shelf, Side::First);
+    let second = log_at(shelf, Side::Second);
+    let live = write_file(disk, &first, &[1, 1, 1, 0, 0, 0, 0, 0, 0, 0, 0]);
+    live?;
+    write_file(disk, &second, &[0, 1, 0, 0, 0, 0, 0, 0, 0, 0, 0])?;
     Ok(())
 }

@@ -67,8 +67,11 @@ pub(crate) fn sync_logs<D: Disk>(disk: &mut D, shelf: Shelf) -> Result<(), DiskF
     ensures only { OnlyReads D.reads D.may_leave D.moment D.left_since D.faults disk.old disk.new }
     ensures cause { HasCause (D.faults disk.old) (D.faults disk.new) result }
 {
-    disk.sync(&log_at(shelf, Side::First))?;
-    disk.sync(&log_at(shelf, Side::Second))?;
+    let first = log_at(shelf, Side::First);
+    let second = log_at(shelf, Side::Second);
+    let is_first = disk.sync(&first);
+    is_first?;
+    disk.sync(&second)?;
     Ok(())
 }
 
@@ -81,8 +84,11 @@ fn look<D: Disk>(disk: &mut D, shelf: Shelf) -> Result<Option<Choice>, DiskFault
     if disk.size(&ready_at(shelf))?.is_none() {
         return Ok(None);
     }
-    let first = head_on(disk, &log_at(shelf, Side::First))?;
-    let second = head_on(disk, &log_at(shelf, Side::Second))?;
+    let live = log_at(shelf, Side::First);
+    let other = log_at(shelf, Side::Second);
+    let read = head_on(disk, &live);
+    let first = read?;
+    let second = head_on(disk, &other)?;
     Ok(Some(choose(&first, &second)))
 }
 

@@ -1,4 +1,4 @@
-use Rattle.std.proofs.Common.{rules, ◌≡◌, [], ◌∷◌, ◌++◌, List, ℕ, sym, ◌∙◌, ap}
+use Rattle.std.proofs.Common.{rules, ◌≡◌, ◌∷◌, ◌++◌, List, ℕ, sym, ◌∙◌, ap}
 use Rattle.cm_disk.specs.Rows.{there_of}
 use Rattle.cm_disk.proofs.places.read_more.Goals as goal
 

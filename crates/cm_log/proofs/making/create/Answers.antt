@@ -1,4 +1,4 @@
-use Rattle.std.proofs.Common.{Bool, Result, Ok, sym, ◌∙◌, ap, rules}
+use Rattle.std.proofs.Common.{Bool, Result, Ok, sym, ◌∙◌, ap}
 use Rattle.cm_disk.specs.declared.disk.DiskFault.{DiskFault}
 use Rattle.cm_log.specs.Shelves.{IsElsewhere, ready_place}
 use Rattle.cm_log.proofs.Frames.{alone_only, alone_then}

@@ -1,6 +1,5 @@
 use Rattle.std.proofs.Common.{List, ℕ, is_some, sym, ◌∙◌, ap, subst, rules}
 use Rattle.cm_disk.specs.Disk.{File, Only}
-use Rattle.cm_log.specs.Shelves.{ready_place}
 use Rattle.cm_log.proofs.Frames.{only_call, only_then}
 use Rattle.cm_log.proofs.Made.{no_file, a_file}
 use Rattle.cm_log.proofs.making.is_made.Goals as goal

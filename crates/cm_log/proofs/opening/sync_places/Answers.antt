@@ -1,6 +1,5 @@
 use Rattle.std.proofs.Common.{List, ℕ, sym, ◌∙◌, subst}
 use Rattle.cm_disk.specs.Disk.{Only}
-use Rattle.cm_log.specs.Shelves.{ready_place}
 use Rattle.cm_log.proofs.Frames.{only_call, only_then}
 use Rattle.cm_log.proofs.opening.sync_places.Goals as goal
 

@@ -1,4 +1,4 @@
-use Rattle.std.proofs.Common.{◌≡◌, sym, ap, ◌∙◌, subst, arith, rules}
+use Rattle.std.proofs.Common.{sym, ap, ◌∙◌, subst, arith, rules}
 use Rattle.cm_log.specs.declared.position.Block.{Block}
 use Rattle.cm_log.specs.Settled.{IsAhead}
 use Rattle.cm_log.proofs.Ahead.{served, served_anew}
