@@ -21,10 +21,10 @@ use Rattle.cm_groups.proofs.Has.{has, passes_within}
 abbrev pub has_one : (Boundary → Bool) → Group → Bool
 has_one holds group = list_any holds group.boundaries
 
--- the group of that number has a boundary that passes, where the first group has this number
-abbrev pub has_one_from : (Boundary → Bool) → ℕ → List Group → ℕ → Bool
-has_one_from holds first [] number = false
-has_one_from holds first (group ∷ groups) number = (first == number && has_one holds group) || has_one_from holds (first + 1) groups number
+-- the group of that number passes, where the first group has this number
+abbrev pub passes_from : (Group → Bool) → ℕ → List Group → ℕ → Bool
+passes_from test first [] number = false
+passes_from test first (group ∷ groups) number = (first == number && test group) || passes_from test (first + 1) groups number
 
 absorbed : (a b : Bool) → (a || (a && b)) ≡ (a && true)
 absorbed true b = refl
@@ -42,7 +42,7 @@ one_group holds first (boundary ∷ boundaries) number =
       | false ↦ rest
     ]
 
-rows_have : (holds : Boundary → Bool) (first : ℕ) (groups : List Group) (number : ℕ) → has (numbers_of holds (rows_from first groups)) number ≡ has_one_from holds first groups number
+rows_have : (holds : Boundary → Bool) (first : ℕ) (groups : List Group) (number : ℕ) → has (numbers_of holds (rows_from first groups)) number ≡ passes_from (has_one holds) first groups number
 rows_have holds first [] number = refl
 rows_have holds first (group ∷ groups) number =
     let front : List (Boundary × ℕ) = map (λ (boundary : Boundary). (boundary, first)) group.boundaries in
@@ -56,17 +56,17 @@ rows_have holds first (group ∷ groups) number =
     ∙ ap (λ (b : Bool). b || has (numbers_of holds back) number) (one_group holds first group.boundaries number)
     ∙ ap (λ (b : Bool). (first == number && has_one holds group) || b) (rows_have holds (first + 1) groups number)
 
-none_before : (holds : Boundary → Bool) (first : ℕ) (groups : List Group) (number : ℕ) → number < first → has_one_from holds first groups number ≡ false
-none_before holds first [] number h = refl
-none_before holds first (group ∷ groups) number h =
-    rw (ne_eqb first number (λ e. absurd (omega arith))) (none_before holds (first + 1) groups number (omega arith))
+none_before : (test : Group → Bool) (first : ℕ) (groups : List Group) (number : ℕ) → number < first → passes_from test first groups number ≡ false
+none_before test first [] number h = refl
+none_before test first (group ∷ groups) number h =
+    rw (ne_eqb first number (λ e. absurd (omega arith))) (none_before test (first + 1) groups number (omega arith))
 
-one_at : (holds : Boundary → Bool) (first place number : ℕ) (groups : List Group) → number ≡ first + place → has_one_from holds first groups number ≡ passes (has_one holds) groups place
-one_at holds first place number [] e = refl
-one_at holds first zero number (group ∷ groups) e =
-    rw (eq-eqb first number (omega arith), none_before holds (first + 1) groups number (omega arith)) (or-false (has_one holds group))
-one_at holds first (suc place) number (group ∷ groups) e =
-    rw (ne_eqb first number (λ same. absurd (omega arith))) (one_at holds (first + 1) place number groups (omega arith))
+pub one_at : (test : Group → Bool) (first place number : ℕ) (groups : List Group) → number ≡ first + place → passes_from test first groups number ≡ passes test groups place
+one_at test first place number [] e = refl
+one_at test first zero number (group ∷ groups) e =
+    rw (eq-eqb first number (omega arith), none_before test (first + 1) groups number (omega arith)) (or-false (test group))
+one_at test first (suc place) number (group ∷ groups) e =
+    rw (ne_eqb first number (λ same. absurd (omega arith))) (one_at test (first + 1) place number groups (omega arith))
 
 either : (f g : Group → Bool) (found : Option Group) → (option_map_or f found false || option_map_or g found false) ≡ option_map_or (λ group. f group || g group) found false
 either f g None = refl
@@ -95,8 +95,8 @@ current_has rows groups address site number are =
     let found = slice_get groups number in
     rw are
     (list_any-append (λ other. other == number) (numbers_of f (rows_from 0 groups)) (numbers_of g (rows_from 0 groups))
-    ∙ ap (λ (b : Bool). b || has (numbers_of g (rows_from 0 groups)) number) (rows_have f 0 groups number ∙ one_at f 0 number number groups (omega arith))
-    ∙ ap (λ (b : Bool). passes (has_one f) groups number || b) (rows_have g 0 groups number ∙ one_at g 0 number number groups (omega arith))
+    ∙ ap (λ (b : Bool). b || has (numbers_of g (rows_from 0 groups)) number) (rows_have f 0 groups number ∙ one_at (has_one f) 0 number number groups (omega arith))
+    ∙ ap (λ (b : Bool). passes (has_one f) groups number || b) (rows_have g 0 groups number ∙ one_at (has_one g) 0 number number groups (omega arith))
     ∙ either (has_one f) (has_one g) found
     ∙ agree (λ group. has_one f group || has_one g group) (holds_client address site) (λ group. any_either f g group.boundaries) found)
 

@@ -28,13 +28,6 @@ both_bools true b to from = sym (to refl)
 both_bools false true to from = from refl
 both_bools false false to from = refl
 
--- two lists with the same numbers
-pub has_same : (xs ys : List ℕ) (number : ℕ) → (Contains xs number ↔ Contains ys number) → has xs number ≡ has ys number
-has_same xs ys number same =
-    both_bools (has xs number) (has ys number)
-    (λ h. has-from_Contains ys number (same.0 (Contains-from_has xs number h)))
-    (λ h. has-from_Contains xs number (same.1 (Contains-from_has ys number h)))
-
 -- the numbers of a list, rising, are those that pass what the list's own test is
 pub those_of : (test : ℕ → Bool) (numbers found : List ℕ) → ((number : ℕ) → has numbers number ≡ test number) → IsRisingOf numbers found → AreThose test found
 those_of test numbers found same are = record {

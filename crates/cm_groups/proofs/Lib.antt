@@ -1,8 +1,11 @@
 pub mod CurrentRows
 pub mod DefaultNames
 pub mod Has
+pub mod Holds
 pub mod LaterMinutes
+pub mod Marking
 pub mod Places
+pub mod Pointed
 pub mod Reached
 pub mod Repeats
 pub mod RowsMade

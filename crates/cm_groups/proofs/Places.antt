@@ -1,32 +1,34 @@
 -- The places of names in lists.
-use Rattle.std.proofs.Common.{◌≡◌, ℕ, suc, zero, ◌+◌, ◌<◌, ◌≤◌, Bool, true, false, cond, List, [], ◌∷◌, length, take, drop, get_or, Option, None, Some, IfSome, is_some, ◌||◌, nat_lt, refl, sym, ap, ◌∙◌, arith, drop-cons, map}
+use Rattle.std.proofs.Common.{◌≡◌, ℕ, suc, zero, ◌+◌, ◌<◌, ◌≤◌, Bool, true, false, cond, List, [], ◌∷◌, length, take, drop, get_or, Option, None, Some, IfSome, is_some, ◌||◌, nat_lt, refl, sym, ap, ◌∙◌, arith, drop-cons, map, position}
 use Rattle.std.specs.List.{list_any, position_from, find, slice_get}
-use Rattle.std.specs.Ordering.{nat_cmp, is_eq}
-use Rattle.std.specs.Cmp.Lexicographic.{slice_cmp}
+use Rattle.std.specs.Ordering.{is_eq}
+use Rattle.std.specs.declared.cmp.Ordering.{Ordering}
 use Rattle.std.specs.Str.{bytes_eq}
 use Rattle.std.proofs.lemmas.Iterator.Adapters.{position_from-zero}
 use Rattle.std.proofs.lemmas.List.{length-map}
 use Rattle.std.proofs.lemmas.List.Quantifiers.{position-Some}
 use Rattle.std.proofs.lemmas.Bool.{true≢false}
 use Rattle.std.proofs.lemmas.Option.{none-some, same_Some, slice_get-get_or}
-use Rattle.std.proofs.lemmas.Map.Text.{is_eq-slice_cmp}
-use Rattle.cm_groups.specs.Names.{place_of, is_among, is_before}
+use Rattle.cm_groups.specs.Names.{place_of}
 
 -- the place is found, and before that one
 abbrev pub is_below : Option ℕ → ℕ → Bool
 is_below None end = false
 is_below (Some place) end = nat_lt place end
 
+pub within_by : {K : Type 0} (p : K → Bool) (names : List K) (d : K) (found : Option ℕ) → found ≡ position p names → IfSome found (λ place. place < length names)
+within_by p names d None e = tt
+within_by p names d (Some place) e = (position-Some p names place d (sym e)).0
+
 pub within : (names : List (List ℕ)) (name : List ℕ) (found : Option ℕ) → found ≡ place_of names name → IfSome found (λ place. place < length names)
-within names name None e = tt
-within names name (Some place) e = (position-Some (λ other. bytes_eq other name) names place [] (sym e)).0
+within names name found e = within_by (λ other. bytes_eq other name) names [] found e
 
 any_from : {X : Type 0} (p : X → Bool) (n : ℕ) (xs : List X) → is_some (position_from p n xs) ≡ list_any p xs
 any_from p n [] = refl
 any_from p n (x ∷ xs) = elim (p x) as (λ b. is_some (cond b (Some n) (position_from p (n + 1) xs)) ≡ (b || list_any p xs)) [ true ↦ refl | false ↦ any_from p (n + 1) xs ]
 
-pub among : (names : List (List ℕ)) (name : List ℕ) (found : Option ℕ) → found ≡ place_of names name → is_some found ≡ is_among names name
-among names name found e = ap is_some (e ∙ position_from-zero (λ other. bytes_eq other name) names) ∙ any_from (λ other. bytes_eq other name) 0 names
+pub among : {K : Type 0} (p : K → Bool) (names : List K) (found : Option ℕ) → found ≡ position p names → is_some found ≡ list_any p names
+among p names found e = ap is_some (e ∙ position_from-zero p names) ∙ any_from p 0 names
 
 not_below : (n end : ℕ) → end ≤ n → nat_lt n end ≡ false
 not_below n end h = grind arith
@@ -52,21 +54,19 @@ before_from p n (x ∷ xs) (suc end) last e =
       | false ↦ before_from p (n + 1) xs end last (omega arith)
     ]
 
-pub before : (names : List (List ℕ)) (end : ℕ) (name : List ℕ) (found : Option ℕ) → found ≡ place_of names name → is_below found end ≡ is_before names end name
-before names end name found e =
-    ap (λ (o : Option ℕ). is_below o end) (e ∙ position_from-zero (λ other. bytes_eq other name) names)
-    ∙ before_from (λ other. bytes_eq other name) 0 names end end (omega arith)
+pub before : {K : Type 0} (p : K → Bool) (names : List K) (end : ℕ) (found : Option ℕ) → found ≡ position p names → is_below found end ≡ list_any p (take end names)
+before p names end found e = ap (λ (o : Option ℕ). is_below o end) (e ∙ position_from-zero p names) ∙ before_from p 0 names end end (omega arith)
 
 -- the map gets the name at the place before those that it has
-pub added : (names : List (List ℕ)) (place next : ℕ) (name other : List ℕ) (old new : Option ℕ)
+pub added : {K : Type 0} (same : K → K → Bool) (cmp : K → K → Ordering) → ((x y : K) → same x y ≡ is_eq (cmp x y)) → (names : List K) (place next : ℕ) (name other : K) (old new : Option ℕ)
     → next ≡ place + 1 → place < length names → name ≡ get_or names place name
-    → old ≡ position_from (λ each. bytes_eq each other) next (drop next names)
-    → new ≡ cond (is_eq (slice_cmp nat_cmp name other)) (Some place) old
-    → new ≡ position_from (λ each. bytes_eq each other) place (drop place names)
-added names place next name other old new e lt is was now =
+    → old ≡ position_from (λ each. same each other) next (drop next names)
+    → new ≡ cond (is_eq (cmp name other)) (Some place) old
+    → new ≡ position_from (λ each. same each other) place (drop place names)
+added same cmp ties names place next name other old new e lt is was now =
     let s : suc place ≡ next = omega arith in
     let rest : drop place names ≡ name ∷ drop next names = cc (drop-cons names place name lt) in
-    rw rest (cc (now, was, is_eq-slice_cmp name other))
+    rw rest (cc (now, was, ties name other))
 
 -- the row of a name is at the place that its name has among the names
 found_from : {Y : Type 0} (p : List ℕ → Bool) (n k place : ℕ) (rows : List (List ℕ × Y)) → place ≡ n + k

@@ -2,6 +2,8 @@ pub mod Codes
 pub mod Current
 pub mod Faults
 pub mod Groups
+pub mod Having
+pub mod Marked
 pub mod Names
 pub mod Reach
 pub mod Rows

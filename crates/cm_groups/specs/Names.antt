@@ -1,8 +1,7 @@
 -- Lists of names, and where a name stands in them.
 use Rattle.std.specs.Prelude.{◌≡◌, ℕ, Bool, List, Option, take, position}
 use Rattle.std.specs.List.{list_any}
-use Rattle.std.specs.Ordering.{nat_cmp}
-use Rattle.std.specs.Cmp.Lexicographic.{slice_cmp}
+use Rattle.std.specs.declared.cmp.Ordering.{Ordering}
 use Rattle.std.specs.BTreeMap.{BTreeMap, get}
 use Rattle.std.specs.Str.{bytes_eq}
 
@@ -19,5 +18,5 @@ abbrev pub is_before : List (List ℕ) → ℕ → List ℕ → Bool
 is_before names end name = is_among (take end names) name
 
 -- the map has the first place of each name that there is, and no other name
-abbrev pub HasPlaces : List (List ℕ) → BTreeMap (List ℕ) ℕ → Type 0
-HasPlaces names places = (name : List ℕ) → get (slice_cmp nat_cmp) places name ≡ place_of names name
+abbrev pub HasPlaces : {K : Type 0} → (K → K → Bool) → (K → K → Ordering) → List K → BTreeMap K ℕ → Type 0
+HasPlaces {K} same cmp names places = (name : K) → get cmp places name ≡ position (λ other. same other name) names

@@ -1,8 +1,11 @@
 -- The rows of the index of groups, and what is true of all groups.
-use Rattle.std.specs.Prelude.{◌≡◌, ℕ, ◌+◌, ◌<◌, ◌≤◌, List, [], ◌∷◌, ◌++◌, All, Some, length, map, option_map}
+use Rattle.std.specs.Prelude.{◌≡◌, ℕ, ◌+◌, ◌<◌, ◌≤◌, List, [], ◌∷◌, ◌++◌, All, Some, Vec, length, map, option_map}
+use Rattle.std.specs.declared.alloc.Global.{Global}
+use Rattle.std.specs.BTreeMap.{BTreeMap}
 use Rattle.std.specs.List.{slice_get}
 use Rattle.cm_net.specs.declared.boundary.Boundary.{Boundary}
 use Rattle.cm_groups.specs.declared.group.Group.{Group}
+use Rattle.cm_groups.specs.Having.{HasGroups}
 
 -- each boundary of the groups with the number of its group, where the first group has this number
 abbrev pub rows_from : ℕ → List Group → List (Boundary × ℕ)
@@ -19,7 +22,8 @@ pub record AreGroups (groups : List Group) : Type 0 where
   pub within : All (LeadsWithin (length groups)) groups
   pub few : length groups ≤ 501
 
--- the index has the rows of the groups
-pub record AreKept (groups : List Group) (rows : List (Boundary × ℕ)) : Type 0 where
+-- the index has the rows of the groups, and the map their points
+pub record AreKept (groups : List Group) (rows : List (Boundary × ℕ)) (having : BTreeMap (List ℕ) (Vec ℕ Global)) : Type 0 where
   pub sound : AreGroups groups
   pub indexed : rows ≡ rows_from 0 groups
+  pub pointed : HasGroups groups having

@@ -1,18 +1,8 @@
--- The groups to which relations lead, in the order of the relations.
-use Rattle.std.specs.Prelude.{ℕ, ◌==◌, ◌&&◌, not, List, [], map, filter}
-use Rattle.std.specs.List.{flat_map, list_any, slice_get}
-use Rattle.std.specs.Option.{option_map_or}
-use Rattle.cm_groups.specs.declared.group.Group.{Group}
-use Rattle.cm_groups.specs.Reach.{counts}
+-- The groups that are reached, by marks.
+use Rattle.std.specs.Prelude.{ℕ, ◌==◌, ◌&&◌, not, Bool, List, if◌then◌else◌}
+use Rattle.cm_groups.specs.Marked.{is_marked}
 
--- the numbers of the neighbours to which a relation of the group leads that counts
-abbrev pub targets : ℕ → Group → List ℕ
-targets elapsed group = map (λ relation. relation.0) (filter (λ relation. not (relation.0 == 0) && counts elapsed relation.1) group.relations)
-
--- the same for the groups of these numbers, one after another
-abbrev pub all_targets : List Group → List ℕ → ℕ → List ℕ
-all_targets groups current elapsed = flat_map (λ number. option_map_or (targets elapsed) (slice_get groups number) []) current
-
--- those that are not among the current groups
-abbrev pub others : List ℕ → List ℕ → List ℕ
-others current numbers = filter (λ number. not (list_any (λ other. other == number) current)) numbers
+-- the group is reached, by the marks of the current groups and of those to which they lead
+abbrev pub is_marked_reached : List Bool → List Bool → Bool → Bool → ℕ → Bool
+is_marked_reached own targets neighbours default number =
+    (if number == 0 then default else neighbours && not (is_marked own number) && is_marked targets number)

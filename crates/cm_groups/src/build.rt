@@ -7,8 +7,9 @@ ghost use Rattle.cm_groups.specs.Rows.{AreGroups};
 
 use crate::checks::first_fault;
 use crate::group::Group;
+use crate::having::having_of;
 use crate::making::{groups_of, rows_of};
-use crate::names::Names;
+use crate::names::{names_of_boundaries, names_of_groups};
 use crate::{GroupText, Groups, GroupsFault, SiteCode};
 use cm_base::{Label, Memory, ServerName};
 use cm_net::{Boundary, Index};
@@ -23,7 +24,12 @@ impl Groups {
     {
         let rows = rows_of(alloc, &groups)?;
         let index = Index::of_rows(alloc, rows)?;
-        Ok(Groups { groups, index })
+        let having = having_of(alloc, &groups)?;
+        Ok(Groups {
+            groups,
+            index,
+            having,
+        })
     }
 
     /// The groups that the texts describe: the default group with these points has number 0, the others follow in order.
@@ -42,8 +48,8 @@ impl Groups {
         ensures fault { IfErr result (IsFirst (first_fault code boundaries.items groups.items)) }
     {
         let rows = boundaries;
-        let names = Names::of_boundaries(alloc, &rows)?;
-        let group_names = Names::of_groups(alloc, code, &groups)?;
+        let names = names_of_boundaries(alloc, &rows)?;
+        let group_names = names_of_groups(alloc, code, &groups)?;
         if let Some(fault) = first_fault(&names, &group_names, &groups) {
             return Err(fault);
         }

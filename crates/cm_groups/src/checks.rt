@@ -25,7 +25,7 @@ const MOST_RELATIONS: usize = 64;
 const MOST_MINUTES: u16 = 10_000;
 
 /// What is wrong with a boundary.
-fn boundary_fault(names: &Names, entry: u16, name: &Label) -> Option<GroupsFault>
+fn boundary_fault(names: &Names<Label>, entry: u16, name: &Label) -> Option<GroupsFault>
     ensures { result ≡ boundary_fault names.now entry name.now }
 {
     let part = BOUNDARIES;
@@ -39,7 +39,7 @@ fn boundary_fault(names: &Names, entry: u16, name: &Label) -> Option<GroupsFault
 }
 
 /// What is wrong with the first boundary that has a fault.
-fn boundary_faults(names: &Names) -> Option<GroupsFault>
+fn boundary_faults(names: &Names<Label>) -> Option<GroupsFault>
     ensures first { result ≡ boundary_faults names.now }
     ensures few { IfNone result (length names.now ≤ 2000) }
 {
@@ -52,14 +52,14 @@ fn boundary_faults(names: &Names) -> Option<GroupsFault>
 }
 
 /// Whether a group of a lower number has the name of the group.
-fn is_taken(groups: &Names, entry: u16, text: &GroupText) -> bool
+fn is_taken(groups: &Names<Label>, entry: u16, text: &GroupText) -> bool
     ensures { result ≡ is_taken groups.now entry text.now }
 {
     groups.has_before(usize::from(entry) + 1, &text.name)
 }
 
 /// Whether a relation leads to a name that no group has.
-fn leads_nowhere(groups: &Names, text: &GroupText) -> bool
+fn leads_nowhere(groups: &Names<Label>, text: &GroupText) -> bool
     ensures { result ≡ leads_nowhere groups.now text.now }
 {
     text.relations
@@ -69,7 +69,7 @@ fn leads_nowhere(groups: &Names, text: &GroupText) -> bool
 }
 
 /// Whether a name of a boundary is that of none.
-fn lacks_boundary(boundaries: &Names, text: &GroupText) -> bool
+fn lacks_boundary(boundaries: &Names<Label>, text: &GroupText) -> bool
     ensures { result ≡ lacks_boundary boundaries.now text.now }
 {
     text.boundaries
@@ -133,8 +133,8 @@ fn is_too_many(entry: u16, text: &GroupText) -> bool
 
 /// What is wrong with a group.
 fn group_fault(
-    boundaries: &Names,
-    groups: &Names,
+    boundaries: &Names<Label>,
+    groups: &Names<Label>,
     entry: u16,
     text: &GroupText,
 ) -> Option<GroupsFault>
@@ -167,7 +167,11 @@ fn group_fault(
 }
 
 /// What is wrong with the first group that has a fault.
-fn group_faults(boundaries: &Names, groups: &Names, texts: &[GroupText]) -> Option<GroupsFault>
+fn group_faults(
+    boundaries: &Names<Label>,
+    groups: &Names<Label>,
+    texts: &[GroupText],
+) -> Option<GroupsFault>
     ensures first { result ≡ group_faults boundaries.now groups.now texts.now }
     ensures few { IfNone result (length texts.now ≤ 500) }
 {
@@ -181,8 +185,8 @@ fn group_faults(boundaries: &Names, groups: &Names, texts: &[GroupText]) -> Opti
 
 /// What is wrong with the first entry that has a fault, by the names of the boundaries and of all groups.
 pub(crate) fn first_fault(
-    boundaries: &Names,
-    groups: &Names,
+    boundaries: &Names<Label>,
+    groups: &Names<Label>,
     texts: &[GroupText],
 ) -> Option<GroupsFault>
     ensures first { result ≡ option_or (boundary_faults boundaries.now) (group_faults boundaries.now groups.now texts.now) }

@@ -6,6 +6,7 @@ use crate::Options;
 use crate::group::Group;
 use cm_base::ServerName;
 use cm_net::Index;
+use std::collections::BTreeMap;
 use std::marker::Model;
 
 /// The groups of a site by their numbers: 0 is the default group. Contracts see the list of them, each with its options,
@@ -14,6 +15,8 @@ use std::marker::Model;
 pub struct Groups {
     pub(crate) groups: Vec<Group>,
     pub(crate) index: Index,
+    /// For each point the numbers of the groups that have it.
+    pub(crate) having: BTreeMap<ServerName, Vec<u16>>,
 }
 
 impl Model for Groups {
@@ -25,7 +28,7 @@ impl Model for Groups {
 
     ghost view = { λ groups. groups.groups.items };
 
-    ghost invariant = { λ groups. AreKept groups.groups.items groups.index };
+    ghost invariant = { λ groups. AreKept groups.groups.items groups.index groups.having };
 }
 
 impl Groups {

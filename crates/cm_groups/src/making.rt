@@ -13,7 +13,7 @@ use cm_net::Boundary;
 use std::alloc::{AllocError, Global};
 
 /// The boundary of that name.
-fn boundary_of(names: &Names, rows: &[(Label, Boundary)], name: &Label) -> Option<Boundary>
+fn boundary_of(names: &Names<Label>, rows: &[(Label, Boundary)], name: &Label) -> Option<Boundary>
     requires { names.now ≡ names_of_rows rows.now }
     ensures { result ≡ boundary_of rows.now name.now }
 {
@@ -26,7 +26,7 @@ fn boundary_of(names: &Names, rows: &[(Label, Boundary)], name: &Label) -> Optio
 /// The boundaries of these names.
 fn boundaries_of(
     alloc: Global,
-    names: &Names,
+    names: &Names<Label>,
     rows: &[(Label, Boundary)],
     wanted: &[Label],
 ) -> Result<Vec<Boundary>, AllocError>
@@ -40,7 +40,7 @@ fn boundaries_of(
 }
 
 /// The relation by the number of the group.
-fn relation_of(groups: &Names, relation: &(Label, Fallback)) -> Option<(u16, Fallback)>
+fn relation_of(groups: &Names<Label>, relation: &(Label, Fallback)) -> Option<(u16, Fallback)>
     requires { length groups.now ≤ 501 }
     ensures { result ≡ relation_of groups.now relation.now }
 {
@@ -53,7 +53,7 @@ fn relation_of(groups: &Names, relation: &(Label, Fallback)) -> Option<(u16, Fal
 /// The relations by the numbers of groups.
 fn relations_of(
     alloc: Global,
-    groups: &Names,
+    groups: &Names<Label>,
     relations: &[(Label, Fallback)],
 ) -> Result<Vec<(u16, Fallback)>, AllocError>
     requires { length groups.now ≤ 501 }
@@ -68,9 +68,9 @@ fn relations_of(
 /// The group that a text describes.
 fn group_of(
     alloc: Global,
-    boundaries: &Names,
+    boundaries: &Names<Label>,
     rows: &[(Label, Boundary)],
-    groups: &Names,
+    groups: &Names<Label>,
     text: GroupText,
 ) -> Result<Group, Memory>
     requires names { boundaries.now ≡ names_of_rows rows.now }
@@ -109,9 +109,9 @@ fn default_group(alloc: Global, points: Vec<ServerName>) -> Group
 /// All groups by their numbers.
 pub(crate) fn groups_of(
     alloc: Global,
-    boundaries: &Names,
+    boundaries: &Names<Label>,
     rows: &[(Label, Boundary)],
-    groups: &Names,
+    groups: &Names<Label>,
     texts: Vec<GroupText>,
     default_points: Vec<ServerName>,
 ) -> Result<Vec<Group>, Memory>

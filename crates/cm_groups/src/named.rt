@@ -16,9 +16,9 @@ impl Groups {
     pub fn of_names(
         alloc: Global,
         code: SiteCode,
-        boundaries: &Names,
+        boundaries: &Names<Label>,
         rows: &[(Label, Boundary)],
-        groups: &Names,
+        groups: &Names<Label>,
         texts: Vec<GroupText>,
         default_points: Vec<ServerName>,
     ) -> Result<Groups, Memory>

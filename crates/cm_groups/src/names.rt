@@ -1,6 +1,7 @@
 //! Names that are found by a map.
-ghost use Rattle.std.specs.Prelude.{◌≡◌, ◌<◌, IfOk, IfSome, length};
-ghost use Rattle.cm_groups.specs.Names.{is_among, is_before, place_of, HasPlaces};
+ghost use Rattle.std.specs.Prelude.{◌≡◌, ◌<◌, IfOk, IfSome, length, position, take};
+ghost use Rattle.std.specs.List.{list_any};
+ghost use Rattle.cm_groups.specs.Names.{HasPlaces};
 ghost use Rattle.cm_groups.specs.Texts.{group_names, names_of_rows};
 
 use crate::{GroupText, SiteCode};
@@ -10,27 +11,27 @@ use std::alloc::{AllocError, Global};
 use std::collections::BTreeMap;
 use std::marker::Model;
 
-/// Names in order, with the first place of each. Contracts see the list of them.
+/// Names in order, with the first place of each: labels, or names of servers. Contracts see the list of them.
 #[derive(Drop)]
-pub struct Names {
-    names: Vec<Label>,
-    places: BTreeMap<Label, usize>,
+pub struct Names<K: Ord + Copy + Drop> {
+    names: Vec<K>,
+    places: BTreeMap<K, usize>,
 }
 
-impl Model for Names {
-    ghost use Rattle.std.specs.Prelude.{ℕ, List};
+impl<K: Ord + Copy + Drop> Model for Names<K> {
+    ghost use Rattle.std.specs.Prelude.{List};
     ghost use Rattle.cm_groups.specs.Names.{HasPlaces};
 
-    ghost Value = { List (List ℕ) };
+    ghost Value = { List K };
 
     ghost view = { λ names. names.names.items };
 
-    ghost invariant = { λ names. HasPlaces names.names.items names.places };
+    ghost invariant = { λ names. HasPlaces ⟦<K as PartialEq>⟧.eq K.cmp names.names.items names.places };
 }
 
 /// The first place of each name.
-fn places_of(alloc: Global, names: &[Label]) -> Result<BTreeMap<Label, usize>, Memory>
-    ensures { IfOk result (λ places. HasPlaces names.now places) }
+fn places_of<K: Ord + Copy + Drop>(alloc: Global, names: &[K]) -> Result<BTreeMap<K, usize>, Memory>
+    ensures { IfOk result (λ places. HasPlaces ⟦<K as PartialEq>⟧.eq K.cmp names.now places) }
 {
     let mut places = BTreeMap::new(alloc);
     for i in (0..names.len()).rev() {
@@ -46,64 +47,71 @@ fn labels_of(alloc: Global, rows: &[(Label, Boundary)]) -> Result<Vec<Label>, Al
     rows.iter().map(|row| row.0).collect(alloc)
 }
 
-impl Names {
+impl<K: Ord + Copy + Drop> Names<K> {
     /// These names. `Memory` where there is none for the map.
-    pub fn of(alloc: Global, names: Vec<Label>) -> Result<Names, Memory>
+    pub fn of(alloc: Global, names: Vec<K>) -> Result<Names<K>, Memory>
         ensures { IfOk result (λ made. made ≡ names.items) }
     {
         let places = places_of(alloc, &names)?;
         Ok(Names { names, places })
     }
 
-    /// The names of the boundaries.
-    pub fn of_boundaries(alloc: Global, rows: &[(Label, Boundary)]) -> Result<Names, Memory>
-        ensures { IfOk result (λ names. names ≡ names_of_rows rows.now) }
-    {
-        let labels = labels_of(alloc, rows)?;
-        Names::of(alloc, labels)
-    }
-
-    /// The names of all groups, the default one first.
-    pub fn of_groups(alloc: Global, code: SiteCode, texts: &[GroupText]) -> Result<Names, Memory>
-        ensures { IfOk result (λ names. names ≡ group_names code texts.now) }
-    {
-        let mut names = Vec::new(alloc);
-        names.push(code.default_name())?;
-        for text in texts {
-            names.push(text.name)?;
-        }
-        Names::of(alloc, names)
-    }
-
     /// The names in order.
-    pub(crate) fn all(&self) -> &[Label]
+    pub(crate) fn all(&self) -> &[K]
         ensures { result.now ≡ self.now }
     {
         &self.names
     }
 
     /// The place of the first entry that has the name.
-    pub(crate) fn place(&self, name: &Label) -> Option<usize>
-        ensures place { result ≡ place_of self.now name.now }
+    pub fn place(&self, name: &K) -> Option<usize>
+        ensures place { result ≡ position (λ other. ⟦<K as PartialEq>⟧.eq other name.now) self.now }
         ensures within { IfSome result (λ place. place < length self.now) }
     {
         self.places.get(name).copied()
     }
 
     /// Whether an entry has the name.
-    pub fn has(&self, name: &Label) -> bool
-        ensures { result ≡ is_among self.now name.now }
+    pub fn has(&self, name: &K) -> bool
+        ensures { result ≡ list_any (λ other. ⟦<K as PartialEq>⟧.eq other name.now) self.now }
     {
         self.place(name).is_some()
     }
 
     /// Whether an entry before that place has the name.
-    pub fn has_before(&self, end: usize, name: &Label) -> bool
-        ensures { result ≡ is_before self.now end name.now }
+    pub fn has_before(&self, end: usize, name: &K) -> bool
+        ensures { result ≡ list_any (λ other. ⟦<K as PartialEq>⟧.eq other name.now) (take end self.now) }
     {
         match self.place(name) {
             Some(place) => place < end,
             None => false,
         }
     }
+}
+
+/// The names of the boundaries.
+pub fn names_of_boundaries(
+    alloc: Global,
+    rows: &[(Label, Boundary)],
+) -> Result<Names<Label>, Memory>
+    ensures { IfOk result (λ names. names ≡ names_of_rows rows.now) }
+{
+    let labels = labels_of(alloc, rows)?;
+    Names::of(alloc, labels)
+}
+
+/// The names of all groups, the default one first.
+pub fn names_of_groups(
+    alloc: Global,
+    code: SiteCode,
+    texts: &[GroupText],
+) -> Result<Names<Label>, Memory>
+    ensures { IfOk result (λ names. names ≡ group_names code texts.now) }
+{
+    let mut names = Vec::new(alloc);
+    names.push(code.default_name())?;
+    for text in texts {
+        names.push(text.name)?;
+    }
+    Names::of(alloc, names)
 }

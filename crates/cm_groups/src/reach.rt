@@ -1,15 +1,15 @@
 //! The further groups that a client reaches.
-ghost use Rattle.std.specs.Prelude.{◌≡◌, ℕ, ◌<◌, ◌==◌, ◌&&◌, not, [], ◌∷◌, ◌++◌, All, IfOk, OnOk, length, if◌then◌else◌};
-ghost use Rattle.std.specs.List.{list_any};
-ghost use Rattle.cm_net.specs.Groups.{IsRisingOf};
+ghost use Rattle.std.specs.Prelude.{◌≡◌, ℕ, ◌<◌, ◌≤◌, ◌||◌, All, IfOk, filter, length};
+ghost use Rattle.std.specs.List.{range_with_len};
 ghost use Rattle.cm_groups.specs.Current.{AreThose, IsThere, passes};
-ghost use Rattle.cm_groups.specs.Reach.{counts, has_relation, is_default_reached, is_neighbour_reached, is_reached, leads_to, leads_to_default, some_current};
-ghost use Rattle.cm_groups.specs.Targets.{all_targets, others, targets};
+ghost use Rattle.cm_groups.specs.Marked.{is_marked};
+ghost use Rattle.cm_groups.specs.Reach.{counts, has_relation, is_default_reached, is_reached, leads_to, leads_to_default, some_current};
+ghost use Rattle.cm_groups.specs.Rows.{LeadsWithin};
+ghost use Rattle.cm_groups.specs.Targets.{is_marked_reached};
 
 use crate::group::Group;
-use crate::{Fallback, Groups};
+use crate::{Fallback, Groups, Marks};
 use cm_base::Memory;
-use cm_net::rising;
 use std::alloc::{AllocError, Global};
 
 /// The minutes of a relation to the default group that no text names.
@@ -81,88 +81,62 @@ fn is_default_reached(groups: &[Group], current: &[u16], elapsed: u32, allowed: 
     allowed && (current.is_empty() || some_passes(groups, current, elapsed))
 }
 
-/// Adds the neighbours to which the group leads.
-fn add_targets(found: &mut Vec<u16>, group: &Group, elapsed: u32) -> Result<(), AllocError>
-    ensures { OnOk result (found.new.items ≡ found.old.items ++ targets elapsed group.now) }
+/// Marks the groups to which the group leads.
+fn mark_targets(marks: &mut Marks, group: &Group, elapsed: u32)
+    requires { LeadsWithin (length marks.now) group.now }
+    ensures count { length marks.new ≡ length marks.old }
+    ensures marked { (number : ℕ) → is_marked marks.new number ≡ (is_marked marks.old number || leads_to elapsed number group.now) }
 {
     for relation in group.relations.items() {
-        if relation.0 != 0 && counts(elapsed, relation.1) {
-            found.push(relation.0)?;
+        if counts(elapsed, relation.1) {
+            marks.add(relation.0);
         }
     }
-    Ok(())
 }
 
-/// The neighbours to which the current groups lead, as often as they do.
-fn all_targets(
+/// Marks of the groups to which current groups lead.
+fn targets_of(
     alloc: Global,
     groups: &[Group],
     current: &[u16],
     elapsed: u32,
-) -> Result<Vec<u16>, AllocError>
-    requires { All (λ number. number < length groups.now) current.now }
-    ensures { IfOk result (λ found. found.items ≡ all_targets groups.now current.now elapsed) }
+) -> Result<Marks, Memory>
+    requires within { All (LeadsWithin (length groups.now)) groups.now }
+    requires there { All (λ number. number < length groups.now) current.now }
+    ensures { IfOk result (λ marks. (number : ℕ) → is_marked marks number ≡ some_current (leads_to elapsed number) groups.now current.now) }
 {
-    let mut found = Vec::new(alloc);
+    let mut marks = Marks::none(alloc, groups.len())?;
     for number in current {
-        add_targets(&mut found, &groups[usize::from(*number)], elapsed)?;
+        mark_targets(&mut marks, &groups[usize::from(*number)], elapsed);
     }
-    Ok(found)
+    Ok(marks)
 }
 
-/// The numbers that are not among the current ones.
-fn others(alloc: Global, current: &[u16], numbers: &[u16]) -> Result<Vec<u16>, AllocError>
-    ensures { IfOk result (λ left. left.items ≡ others current.now numbers.now) }
+/// Whether the group is reached, by the marks of the current groups and of those to which they lead.
+fn is_reached(number: u16, own: &Marks, targets: &Marks, neighbours: bool, default: bool) -> bool
+    ensures { result ≡ is_marked_reached own.now targets.now neighbours default number }
 {
-    numbers
-        .iter()
-        .copied()
-        .filter(|number| !current.contains(number))
+    if number == 0 {
+        return default;
+    }
+    neighbours && !own.has(number) && targets.has(number)
+}
+
+/// The groups that are reached, by the same marks.
+fn numbers_reached(
+    alloc: Global,
+    count: usize,
+    own: &Marks,
+    targets: &Marks,
+    neighbours: bool,
+    default: bool,
+) -> Result<Vec<u16>, AllocError>
+    requires { count ≤ 501 }
+    ensures { IfOk result (λ numbers. numbers.items ≡ filter (is_marked_reached own.now targets.now neighbours default) (range_with_len 0 count)) }
+{
+    (0..count as u16)
+        .filter(|number| is_reached(*number, own, targets, neighbours, default))
         .collect(alloc)
-}
-
-/// The neighbours that are reached, each once.
-fn neighbours_of(
-    alloc: Global,
-    groups: &[Group],
-    current: &[u16],
-    elapsed: u32,
-) -> Result<Vec<u16>, Memory>
-    requires { All (λ number. number < length groups.now) current.now }
-    ensures { IfOk result (λ found. IsRisingOf (others current.now (all_targets groups.now current.now elapsed)) found.items) }
-{
-    let targets = rising(all_targets(alloc, groups, current, elapsed)?);
-    Ok(others(alloc, current, &targets)?)
-}
-
-/// The neighbours that are reached, where they are allowed.
-fn allowed_neighbours(
-    alloc: Global,
-    groups: &[Group],
-    current: &[u16],
-    elapsed: u32,
-    allowed: bool,
-) -> Result<Vec<u16>, Memory>
-    requires { All (λ number. number < length groups.now) current.now }
-    ensures { IfOk result (λ found. (number : ℕ) → list_any (λ other. other == number) found.items
-        ≡ (not (number == 0) && is_neighbour_reached groups.now current.now elapsed allowed number)) }
-{
-    if allowed {
-        neighbours_of(alloc, groups, current, elapsed)
-    } else {
-        Ok(Vec::new(alloc))
-    }
-}
-
-/// The numbers and, where it is reached, that of the default group.
-fn with_default(numbers: Vec<u16>, is_reached: bool) -> Result<Vec<u16>, Memory>
-    ensures { IfOk result (λ all. all.items ≡ (if is_reached then numbers.items ++ 0 ∷ [] else numbers.items)) }
-{
-    let mut numbers = numbers;
-    if is_reached {
-        numbers.push(0)?;
-    }
-    Ok(numbers)
 }
 
 impl Groups {
@@ -183,8 +157,16 @@ impl Groups {
         ensures those { IfOk result (λ numbers. AreThose (is_reached self.now current.now elapsed neighbours default_group) numbers.items) }
         ensures there { IfOk result (λ numbers. All (λ number. number < length self.now) numbers.items) }
     {
-        let found = allowed_neighbours(alloc, &self.groups, current, elapsed, neighbours)?;
-        let is_reached = is_default_reached(&self.groups, current, elapsed, default_group);
-        Ok(rising(with_default(found, is_reached)?))
+        let default = is_default_reached(&self.groups, current, elapsed, default_group);
+        let own = Marks::of(alloc, self.groups.len(), current)?;
+        let targets = targets_of(alloc, &self.groups, current, elapsed)?;
+        Ok(numbers_reached(
+            alloc,
+            self.groups.len(),
+            &own,
+            &targets,
+            neighbours,
+            default,
+        )?)
     }
 }

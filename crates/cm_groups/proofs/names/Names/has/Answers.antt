@@ -3,4 +3,4 @@ use Rattle.cm_groups.proofs.Places.{among}
 use Rattle.cm_groups.proofs.names.Names.has.Goals as goal
 
 pub returns : goal.returns
-returns c = c.is_some.ensures ∙ among c.args.self.now c.args.name.now _ c.place.ensures.place
+returns g c = c.is_some.ensures ∙ among _ c.args.self.now _ c.place.ensures.place

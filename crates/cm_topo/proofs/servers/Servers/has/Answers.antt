@@ -1,6 +1,0 @@
-use Rattle.std.proofs.Common.{◌∙◌}
-use Rattle.cm_groups.proofs.Places.{among}
-use Rattle.cm_topo.proofs.servers.Servers.has.Goals as goal
-
-pub returns : goal.returns
-returns c = c.is_some.ensures ∙ among c.args.self.now c.args.name.now _ c.place.ensures
