@@ -2,10 +2,9 @@
 ghost use Rattle.std.specs.Prelude.{◌≡◌, IfOk, map};
 ghost use Rattle.cm_topo.specs.SecondPass.{known_of};
 
-use crate::servers::Servers;
 use crate::topology_text::TopologyText;
 use cm_base::{Label, Memory, ServerName};
-use cm_groups::Names;
+use cm_groups::{Names, names_of_boundaries, names_of_groups};
 use cm_peer::Peer;
 use cm_points::{Point, PointGroup};
 use std::alloc::{AllocError, Global};
@@ -13,11 +12,11 @@ use std::alloc::{AllocError, Global};
 /// The names of each part, in order. Those of the groups begin with the default group.
 #[derive(Drop)]
 pub(crate) struct Known {
-    pub boundaries: Names,
-    pub groups: Names,
-    pub points: Servers,
-    pub point_groups: Names,
-    pub peers: Servers,
+    pub boundaries: Names<Label>,
+    pub groups: Names<Label>,
+    pub points: Names<ServerName>,
+    pub point_groups: Names<Label>,
+    pub peers: Names<ServerName>,
 }
 
 /// The names of these points.
@@ -48,17 +47,17 @@ impl Known {
     {
         let sites = &text.sites;
         let servers = &text.servers;
-        let boundaries = Names::of_boundaries(alloc, sites.boundaries.items())?;
-        let groups = Names::of_groups(alloc, sites.code, sites.groups.items())?;
+        let boundaries = names_of_boundaries(alloc, sites.boundaries.items())?;
+        let groups = names_of_groups(alloc, sites.code, sites.groups.items())?;
         let points = names_of_points(alloc, servers.points.items())?;
         let point_groups = names_of_point_groups(alloc, servers.point_groups.items())?;
         let peers = names_of_peers(alloc, servers.peers.items())?;
         Ok(Known {
             boundaries,
             groups,
-            points: Servers::of(alloc, points)?,
+            points: Names::of(alloc, points)?,
             point_groups: Names::of(alloc, point_groups)?,
-            peers: Servers::of(alloc, peers)?,
+            peers: Names::of(alloc, peers)?,
         })
     }
 }

@@ -11,7 +11,6 @@ mod reading;
 mod rows;
 mod rules;
 mod second_pass;
-mod servers;
 mod topology;
 mod topology_text;
 mod trouble;

@@ -11,7 +11,6 @@ use crate::rules::{
     NO_SUCH_BOUNDARY, NO_SUCH_GROUP, NO_SUCH_POINT, PULL_FROM_ITSELF, SAME_NAME, SAME_RELATION,
     SELF_RELATION,
 };
-use crate::servers::Servers;
 use crate::topology_text::{GroupsText, ServersText, TopologyText};
 use crate::trouble::Trouble;
 use cm_base::{Label, ServerName};
@@ -50,7 +49,7 @@ fn part_fault<R: Refers>(known: &Known, part: u8, rows: &[R]) -> Option<Placed>
 }
 
 /// The first of the wanted boundaries that is not there.
-fn missing_boundary(boundaries: &Names, wanted: &[Label]) -> Option<Trouble>
+fn missing_boundary(boundaries: &Names<Label>, wanted: &[Label]) -> Option<Trouble>
     ensures { first (missing no_such_boundary boundaries.now wanted.now) ≡ result }
 {
     for name in wanted {
@@ -62,7 +61,7 @@ fn missing_boundary(boundaries: &Names, wanted: &[Label]) -> Option<Trouble>
 }
 
 /// The first of the wanted points that is not there.
-fn missing_point(points: &Servers, wanted: &[ServerName]) -> Option<Trouble>
+fn missing_point(points: &Names<ServerName>, wanted: &[ServerName]) -> Option<Trouble>
     ensures { first (missing no_such_point points.now wanted.now) ≡ result }
 {
     for name in wanted {
