@@ -1,10 +1,11 @@
 -- The current and the reached groups.
-use Rattle.std.proofs.Common.{◌≡◌, ℕ, ◌<◌, Bool, List, All, filter, length, ap, ◌∙◌, Option}
+use Rattle.std.proofs.Common.{◌≡◌, ℕ, ◌<◌, Bool, List, All, filter, length, ap, ◌∙◌, subst, Option}
 use Rattle.std.proofs.lemmas.List.Elements.{All-filter, All-same, All-weaker}
 use Rattle.cm_groups.specs.declared.group.Group.{Group}
 use Rattle.cm_groups.specs.Current.{AreThose, IsThere, is_current}
 use Rattle.cm_groups.specs.Reach.{is_reached}
 use Rattle.cm_locate.specs.declared.ask.Ask.{Ask}
+use Rattle.cm_locate.specs.Clients.{AreMarksOf}
 use Rattle.cm_locate.specs.Eligible.{current_of, numbers_that, reached_of}
 use Rattle.cm_locate.proofs.Numbers.{numbers_are}
 
@@ -31,3 +32,7 @@ pub kept_below : (test : ℕ → Bool) (groups : List Group) (numbers kept near 
 kept_below test groups numbers kept near far first second third there =
     let P : ℕ → Type 0 = λ number. number < length groups in
     All-same P near (filter test numbers) (first ∙ second ∙ ap (filter test) third) (All-filter test P numbers there)
+
+-- marks of numbers that are others
+pub marks_same : (numbers others : List ℕ) (marks : List Bool) → numbers ≡ others → AreMarksOf numbers marks → AreMarksOf others marks
+marks_same numbers others marks same are = subst (λ (ns : List ℕ). AreMarksOf ns marks) same are

@@ -15,8 +15,11 @@ use Rattle.cm_locate.specs.declared.ask.Ask.{Ask}
 use Rattle.cm_locate.specs.Eligible.{current_of, has_point, is_eligible_point, is_in, reached_of}
 use Rattle.cm_locate.specs.Answers.{peer_row, point_row, source_of_point}
 use Rattle.cm_locate.specs.Ranks.{Source, default_of, neighbours_of, prefers_points}
-use Rattle.cm_locate.proofs.Below.{kept_any}
 use Rattle.cm_locate.proofs.Reordered.{rank_by}
+
+kept_any : (p : ℕ → Bool) (b : Bool) (x : ℕ) (kept : List ℕ) → list_any p (cond b (x ∷ kept) kept) ≡ ((b && p x) || list_any p kept)
+kept_any p true x kept = refl
+kept_any p false x kept = refl
 
 one_still : (b c v w z : Bool) → (b ≡ true → c ≡ true) → (w ≡ true → z ≡ true) → ((b && v) || w) ≡ true → ((c && v) || z) ≡ true
 one_still true true true w z f g h = refl

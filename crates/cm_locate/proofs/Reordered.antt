@@ -1,4 +1,4 @@
--- The rows of sources, among groups that are listed in another order.
+-- The rank of a source by what it depends on, and answers by other rows that say the same.
 use Rattle.std.proofs.Common.{◌≡◌, ℕ, ◌&&◌, ◌||◌, not, Bool, cond, List, [], ◌∷◌, ◌++◌, refl, sym, ap, ◌∙◌, subst, Option, None, option_map}
 use Rattle.std.specs.List.{cons_option, filter_map, zip}
 use Rattle.std.specs.List.Sorted.{IsPermutation}
@@ -13,8 +13,6 @@ use Rattle.cm_locate.specs.Answers.{IsAnswer, peer_row, peer_rows, point_row, po
 use Rattle.cm_locate.specs.Asks.{is_asking, is_near, is_of_site}
 use Rattle.cm_locate.specs.Eligible.{current_of, has_cached, has_point, is_eligible_peer, is_eligible_point, is_in, lets, reached_of}
 use Rattle.cm_locate.specs.Ranks.{Source, default_of, exchanged, first_fit, is_point, neighbours_of, prefers_points, rank_of, row_of}
-use Rattle.cm_locate.specs.Renumbered.{AreRenumbered}
-use Rattle.cm_locate.proofs.Renumbering.{of_default, of_neighbours, of_reached, some_alike}
 
 -- the rank of a source by whether it is in a current group, in a neighbour that is reached, in the default group, and whether points are preferred
 abbrev pub rank_by : Ask → Source → Bool → Bool → Bool → Bool → Option ℕ
@@ -32,45 +30,6 @@ rank_by ask source c b d prefers =
     ∷ (is_point source.kind && d, 9)
     ∷ []))
 
-in_current : (to from : ℕ → ℕ) (groups others : List Group) (are : AreRenumbered to from groups others) (ask : Ask) (name : List ℕ)
-    → is_in others name (current_of others ask) ≡ is_in groups name (current_of groups ask)
-in_current to from groups others are ask name = some_alike to from groups others are ask (has_point name) (has_point name) (λ group. refl)
-
-rank_alike : (to from : ℕ → ℕ) (groups others : List Group) (are : AreRenumbered to from groups others) (ask : Ask) (source : Source) → rank_of others ask source ≡ rank_of groups ask source
-rank_alike to from groups others are ask source =
-    let name : List ℕ = source.name in
-    let c : Bool = is_in groups name (current_of groups ask) in
-    let b : Bool = is_in groups name (neighbours_of (reached_of groups ask)) in
-    let d : Bool = is_in groups name (default_of (reached_of groups ask)) in
-    let b_other : Bool = is_in others name (neighbours_of (reached_of others ask)) in
-    let d_other : Bool = is_in others name (default_of (reached_of others ask)) in
-    ap (λ v. rank_by ask source v b_other d_other (prefers_points others ask)) (in_current to from groups others are ask name)
-    ∙ ap (λ v. rank_by ask source c v d_other (prefers_points others ask)) (of_neighbours to from groups others are ask name)
-    ∙ ap (λ v. rank_by ask source c b v (prefers_points others ask)) (of_default to from groups others are ask name)
-    ∙ ap (λ v. rank_by ask source c b d v)
-    (some_alike to from groups others are ask (λ group. group.options.prefer_points) (λ group. group.options.prefer_points) (λ group. refl))
-
-row_alike : (to from : ℕ → ℕ) (groups others : List Group) (are : AreRenumbered to from groups others) (ask : Ask) (source : Source) → row_of others ask source ≡ row_of groups ask source
-row_alike to from groups others are ask source =
-    let made : ℕ → SourceRow = λ rank. record { rank = rank; kind = source.kind; name = source.name } in
-    ap (option_map made) (rank_alike to from groups others are ask source)
-
-point_alike : (to from : ℕ → ℕ) (groups others : List Group) (are : AreRenumbered to from groups others) (installed : List InstalledRow) (ask : Ask) (point : Point)
-    → point_row others installed ask point ≡ point_row groups installed ask point
-point_alike to from groups others are installed ask point =
-    let has : Bool = is_installed installed point.name ask.package ask.version in
-    ap (λ (o : Option SourceRow). cond (is_eligible_point others installed ask point) o None) (row_alike to from groups others are ask (source_of_point point))
-    ∙ ap (λ v. cond (has && (v || is_in others point.name (reached_of others ask))) (row_of groups ask (source_of_point point)) None) (in_current to from groups others are ask point.name)
-    ∙ ap (λ v. cond (has && (is_in groups point.name (current_of groups ask) || v)) (row_of groups ask (source_of_point point)) None) (of_reached to from groups others are ask point.name)
-
-peer_alike : (to from : ℕ → ℕ) (groups others : List Group) (are : AreRenumbered to from groups others) (ask : Ask) (pair : Peer × PeerState)
-    → peer_row others ask pair ≡ peer_row groups ask pair
-peer_alike to from groups others are ask pair =
-    let apart : Bool = not (is_asking ask pair.0.name) in
-    ap (λ (o : Option SourceRow). cond (is_eligible_peer others ask pair.0 pair.1) o None) (row_alike to from groups others are ask (source_of_peer pair.0))
-    ∙ ap (λ v. cond (has_cached ask pair.1 && apart && v) (row_of groups ask (source_of_peer pair.0)) None)
-    (some_alike to from groups others are ask (lets ask pair.0) (lets ask pair.0) (λ group. refl))
-
 made_same : {X Y : Type 0} (f g : X → Option Y) → ((x : X) → f x ≡ g x) → (xs : List X) → filter_map f xs ≡ filter_map g xs
 made_same f g same [] = refl
 made_same f g same (x ∷ xs) = ap (λ o. cons_option o (filter_map f xs)) (same x) ∙ ap (cons_option (g x)) (made_same f g same xs)
@@ -84,12 +43,6 @@ moved_answer groups others points peers states installed its ask rows points_sam
     sym (ap (λ (of_points : List SourceRow). of_points ++ peer_rows others ask peers states) (made_same (point_row others its ask) (point_row groups installed ask) points_same points)
     ∙ ap (λ (of_peers : List SourceRow). point_rows groups installed ask points ++ of_peers) (made_same (peer_row others ask) (peer_row groups ask) peers_same (zip peers states))) in
     record { each = subst (λ (listed : List SourceRow). IsPermutation listed rows) same answer.each; sorted = answer.sorted }
-
--- an answer among groups is one among the same groups in another order
-pub answer_alike : (to from : ℕ → ℕ) (groups others : List Group) (points : List Point) (peers : List Peer) (states : List PeerState) (installed : List InstalledRow) (ask : Ask) (rows : List SourceRow)
-    → AreRenumbered to from groups others → IsAnswer groups points peers states installed ask rows → IsAnswer others points peers states installed ask rows
-answer_alike to from groups others points peers states installed ask rows are answer =
-    moved_answer groups others points peers states installed installed ask rows (point_alike to from groups others are installed ask) (peer_alike to from groups others are ask) answer
 
 -- an answer by what was built of rows is one by the rows
 pub answer_by_rows : (groups : List Group) (points : List Point) (peers : List Peer) (states : List PeerState) (given built : List InstalledRow) (ask : Ask) (rows : List SourceRow)

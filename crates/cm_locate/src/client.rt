@@ -1,21 +1,22 @@
 //! What is looked up once for a client.
 use crate::Ask;
-use crate::names::Names;
-use cm_groups::Groups;
+use cm_groups::{Groups, Marks};
 
 /// A client that asks, among the groups.
 #[derive(Drop)]
 pub(crate) struct Client<'a> {
     pub(crate) groups: &'a Groups,
     pub(crate) ask: &'a Ask,
-    /// The numbers of its current groups, rising.
-    pub(crate) current: Vec<u16>,
-    /// Whether one of them prefers points.
+    /// Its current groups.
+    pub(crate) current: Marks,
+    /// Those of them that let a peer in the client's subnet serve.
+    pub(crate) near: Marks,
+    /// Those of them that let a peer in another subnet serve.
+    pub(crate) far: Marks,
+    /// The neighbours that it reaches.
+    pub(crate) neighbours: Marks,
+    /// The default group, where it reaches that.
+    pub(crate) default_group: Marks,
+    /// Whether a current group prefers points.
     pub(crate) prefers_points: bool,
-    /// The points of its current groups.
-    pub(crate) of_current: Names,
-    /// The points of the neighbours that it reaches.
-    pub(crate) of_neighbours: Names,
-    /// The points of the default group, where it reaches that.
-    pub(crate) of_default: Names,
 }

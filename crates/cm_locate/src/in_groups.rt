@@ -1,33 +1,18 @@
-//! The points of groups, and what groups prefer.
-ghost use Rattle.std.specs.Prelude.{◌≡◌, ◌<◌, ◌++◌, All, IfOk, OnOk, length};
+//! What groups prefer, and whether they have a point.
+ghost use Rattle.std.specs.Prelude.{◌≡◌, ◌<◌, ℕ, List, All, length};
 ghost use Rattle.cm_groups.specs.Current.{passes};
 ghost use Rattle.cm_groups.specs.Reach.{some_current};
-ghost use Rattle.cm_locate.specs.Names.{ArePointsOf, points_at};
+ghost use Rattle.cm_locate.specs.Clients.{AreMarksOf};
+ghost use Rattle.cm_locate.specs.Eligible.{is_in};
 
-use crate::names::Names;
-use cm_base::{Memory, ServerName};
-use cm_groups::Groups;
-use std::alloc::Global;
+use cm_base::ServerName;
+use cm_groups::{Groups, Marks};
 
-/// Adds the points of a group.
-fn add_points(names: &mut Vec<ServerName>, groups: &Groups, number: u16) -> Result<(), Memory>
-    requires { number < length groups.now }
-    ensures { OnOk result (names.new.items ≡ names.old.items ++ points_at groups.now number) }
+/// Whether one of the marked groups has the point.
+pub(crate) fn is_in(groups: &Groups, marks: &Marks, name: &ServerName) -> bool
+    ensures { (numbers : List ℕ) → AreMarksOf numbers marks.now → result ≡ is_in groups.now name.now numbers }
 {
-    names.extend_from_slice(groups.points(number))?;
-    Ok(())
-}
-
-/// The points of the groups of these numbers.
-pub(crate) fn points_of(alloc: Global, groups: &Groups, numbers: &[u16]) -> Result<Names, Memory>
-    requires { All (λ number. number < length groups.now) numbers.now }
-    ensures { IfOk result (λ names. ArePointsOf groups.now numbers.now names) }
-{
-    let mut names = Vec::new(alloc);
-    for number in numbers {
-        add_points(&mut names, groups, *number)?;
-    }
-    Ok(Names::of(names))
+    marks.has_one(groups.having(name))
 }
 
 /// Whether the group prefers points.

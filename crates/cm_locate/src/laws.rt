@@ -4,11 +4,7 @@ ghost use Rattle.std.specs.List.{IsDistinct, zip};
 ghost use Rattle.std.specs.Str.{bytes_eq};
 ghost use Rattle.std.specs.declared.cmp.Ordering.{Ordering};
 ghost use Rattle.std.specs.List.Sorted.{IsPermutation};
-ghost use Rattle.cm_net.specs.declared.boundary.Boundary.{Boundary};
 ghost use Rattle.cm_groups.specs.declared.group.Group.{Group};
-ghost use Rattle.cm_groups.specs.declared.group_text.GroupText.{GroupText};
-ghost use Rattle.cm_groups.specs.Groups.{groups_of};
-ghost use Rattle.cm_groups.specs.Texts.{group_names};
 ghost use Rattle.cm_peer.specs.declared.peer.Peer.{Peer};
 ghost use Rattle.cm_peer.specs.declared.peer.PeerState.{PeerState};
 ghost use Rattle.cm_peer.specs.declared.sources.SourceRow.{SourceRow};
@@ -18,7 +14,6 @@ ghost use Rattle.cm_locate.specs.declared.ask.Ask.{Ask};
 ghost use Rattle.cm_locate.specs.Answers.{IsAnswer, peer_row, point_row, row_cmp, source_of_peer, source_of_point};
 ghost use Rattle.cm_locate.specs.Eligible.{current_of, is_eligible_point, is_in};
 ghost use Rattle.cm_locate.specs.Ranks.{Source, kind_of_rank, prefers_points, rank_of};
-ghost use Rattle.cm_locate.specs.Renumbered.{AreRenumbered};
 
 use cm_groups::minutes_take_no_group_away;
 
@@ -29,21 +24,7 @@ pub fn one_answer()
         → IsAnswer groups points peers states installed ask rows → IsAnswer groups other_points other_peers other_states installed ask others → rows ≡ others }
 {}
 
-/// Nor does the order in which the groups are listed change it: an answer among groups is one among the same groups in another
-/// order.
-pub fn groups_in_any_order()
-    ensures { (to from : ℕ → ℕ) (groups others : List Group) (points : List Point) (peers : List Peer) (states : List PeerState) (installed : List InstalledRow) (ask : Ask) (rows : List SourceRow)
-        → AreRenumbered to from groups others → IsAnswer groups points peers states installed ask rows → IsAnswer others points peers states installed ask rows }
-{}
-
-/// The same by the texts of groups, of which no two have one name: these may be listed in any order.
-pub fn group_texts_in_any_order()
-    ensures { (code : List ℕ) (boundaries : List (List ℕ × Boundary)) (texts others : List GroupText) (default_points : List (List ℕ)) (points : List Point) (peers : List Peer) (states : List PeerState) (installed : List InstalledRow) (ask : Ask) (rows : List SourceRow)
-        → IsDistinct bytes_eq (group_names code texts) → IsPermutation texts others
-        → IsAnswer (groups_of code boundaries texts default_points) points peers states installed ask rows → IsAnswer (groups_of code boundaries others default_points) points peers states installed ask rows }
-{}
-
-/// Nor do rows of what is installed that say the same: an answer by what was built of rows is one by these rows.
+/// Nor do rows of what is installed that say the same change it: an answer by what was built of rows is one by these rows.
 pub fn installed_rows_in_any_order()
     ensures { (groups : List Group) (points : List Point) (peers : List Peer) (states : List PeerState) (given built : List InstalledRow) (ask : Ask) (rows : List SourceRow)
         → AreSameRows given built → IsAnswer groups points peers states built ask rows → IsAnswer groups points peers states given ask rows }

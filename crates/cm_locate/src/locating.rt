@@ -48,6 +48,6 @@ pub fn locate(
 {
     let client = Client::new(alloc, groups, ask)?;
     let mut rows = client.point_rows(alloc, installed, points)?;
-    client.add_peers(alloc, &mut rows, peers, states)?;
+    client.add_peers(&mut rows, peers, states)?;
     Ok(in_order(rows))
 }

@@ -5,6 +5,7 @@ ghost use Rattle.cm_locate.specs.Clients.{IsClient};
 ghost use Rattle.cm_locate.specs.Ranks.{rank_of, rank_of_current, rank_of_peer};
 
 use crate::client::Client;
+use crate::in_groups::is_in;
 use crate::near::{is_asking, is_near, is_of_site};
 use cm_peer::Peer;
 use cm_points::Point;
@@ -70,7 +71,7 @@ impl Client<'_> {
         requires { IsClient self.now.groups.now self.now.ask.now self.now }
         ensures { result ≡ rank_of self.now.groups.now self.now.ask.now (source_of_point point.now) }
     {
-        if self.of_current.has(&point.name) {
+        if is_in(self.groups, &self.current, &point.name) {
             return Some(rank_of_current(
                 is_asking(self.ask, &point.name),
                 is_near(self.ask, point.address),
@@ -78,10 +79,10 @@ impl Client<'_> {
                 self.prefers_points,
             ));
         }
-        if self.of_neighbours.has(&point.name) {
+        if is_in(self.groups, &self.neighbours, &point.name) {
             return Some(NEIGHBOUR);
         }
-        if self.of_default.has(&point.name) {
+        if is_in(self.groups, &self.default_group, &point.name) {
             return Some(DEFAULT);
         }
         None

@@ -48,23 +48,18 @@ impl Client<'_> {
     }
 
     /// The row of a peer, where it is eligible.
-    fn peer_row(
-        &self,
-        alloc: Global,
-        peer: &Peer,
-        state: &PeerState,
-    ) -> Result<Option<SourceRow>, Memory>
+    fn peer_row(&self, peer: &Peer, state: &PeerState) -> Option<SourceRow>
         requires { IsClient self.now.groups.now self.now.ask.now self.now }
-        ensures { IfOk result (λ row. row ≡ peer_row self.now.groups.now self.now.ask.now (peer.now, state.now)) }
+        ensures { result ≡ peer_row self.now.groups.now self.now.ask.now (peer.now, state.now) }
     {
-        if !self.is_eligible_peer(alloc, peer, state)? {
-            return Ok(None);
+        if !self.is_eligible_peer(peer, state) {
+            return None;
         }
-        Ok(Some(SourceRow {
+        Some(SourceRow {
             rank: self.peer_rank(peer),
             kind: Kind::Peer,
             name: peer.name,
-        }))
+        })
     }
 
     /// The rows of the eligible points.
@@ -87,7 +82,6 @@ impl Client<'_> {
     /// Adds the rows of the eligible peers.
     pub(crate) fn add_peers(
         &self,
-        alloc: Global,
         rows: &mut Vec<SourceRow>,
         peers: &[Peer],
         states: &[PeerState],
@@ -97,8 +91,7 @@ impl Client<'_> {
         ensures { OnOk result (rows.new.items ≡ rows.old.items ++ peer_rows self.now.groups.now self.now.ask.now peers.now states.now) }
     {
         for (number, peer) in peers.iter().enumerate() {
-            let row = self.peer_row(alloc, peer, &states[number])?;
-            add(rows, row)?;
+            add(rows, self.peer_row(peer, &states[number]))?;
         }
         Ok(())
     }
