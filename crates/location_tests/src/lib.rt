@@ -1,19 +1,9 @@
-//! Boundaries, groups, peers, points, locations and topologies by values from outside.
+//! Locations and topologies by values from outside.
 //!
 //! The tests of a crate stand in a crate of their own, since a crate with tests is proved twice.
 #![tactic(auto)]
 
 #[cfg(test)]
-mod boundaries;
-#[cfg(test)]
-mod groups;
-#[cfg(test)]
-mod limits;
-#[cfg(test)]
 mod locations;
-#[cfg(test)]
-mod peers;
-#[cfg(test)]
-mod points;
 #[cfg(test)]
 mod topologies;

@@ -1,5 +1,5 @@
 use Rattle.cm_net.proofs.Halving.{three_steps, one_step}
-use Rattle.location_tests.proofs.boundaries.is_found.Goals as goal
+use Rattle.index_tests.proofs.boundaries.is_found.Goals as goal
 
 pub returns-clause-three_rows : goal.returns-clause-three_rows
 returns-clause-three_rows g c = three_steps c.args.address c.args.index.now _ _ c.of.ensures.steps
