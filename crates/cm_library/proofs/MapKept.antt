@@ -1,5 +1,5 @@
 -- Stored manifests, kept in a map.
-use Rattle.std.proofs.Common.{◌≡◌, ℕ, Bool, true, false, List, [], ◌∷◌, ◌++◌, length, suc, ◌+◌, ◌<◌, take, drop, get_or, refl, sym, ◌∙◌, ap, subst, add-one}
+use Rattle.std.proofs.Common.{◌≡◌, ℕ, Bool, true, false, List, [], ◌∷◌, ◌++◌, length, suc, ◌+◌, ◌<◌, take, drop, get_or, refl, sym, ◌∙◌, ap}
 use Rattle.std.specs.Prelude.{Option, None, Some, option_map, map, Result, Ok, Err, ◌==◌, ◌&&◌}
 use Rattle.std.specs.Option.{option_and_then}
 use Rattle.std.specs.List.{AllByRecursion}
@@ -11,19 +11,16 @@ use Rattle.sha2.specs.Sha256.{sha256}
 use Rattle.cm_disk.specs.Disk.{Files}
 use Rattle.cm_pkglib.specs.declared.row.PkgRow.{PkgRow}
 use Rattle.cm_pkglib.specs.Rows.{Rows, is_of}
-use Rattle.std.proofs.lemmas.List.{take-append-drop}
-use Rattle.std.proofs.Math.Seq.{take-suc, drop-cons}
-use Rattle.cm_pkglib.proofs.Among.{All-append}
 use Rattle.cm_tree.specs.declared.entry.Entry.{Entry}
 use Rattle.cm_tree.specs.declared.tree_fault.TreeFault.{TreeFault}
 use Rattle.cm_tree.specs.Reading.{read_manifest}
 use Rattle.cm_datalib.specs.Places.{manifest_place}
-use Rattle.cm_library.specs.State.{Held}
-use Rattle.cm_library.specs.Look.{counted, manifest_in, held, both, all_held, all_jobs, state_of}
-use Rattle.cm_library.specs.Contents.{held_with, job_held_with, manifest_in_map, PutsManifest}
+use Rattle.cm_state.specs.State.{Held}
+use Rattle.cm_state.specs.Look.{counted, manifest_in, held, both, all_held, all_jobs, state_of}
+use Rattle.cm_contents.specs.Contents.{held_with, job_held_with, manifest_in_map, PutsManifest}
 use Rattle.cm_library.specs.Loads.{Map, IsKept, TakesOne, Loads}
-use Rattle.cm_library.proofs.Replaying.{cond_some, then_some}
-use Rattle.cm_library.proofs.Keeping.{and_left, and_right}
+use Rattle.cm_state.proofs.Replaying.{cond_some, then_some}
+use Rattle.cm_state.proofs.Lists.{and_left, and_right, split_at}
 
 -- the stored bytes of a row
 abbrev stored : Files → PkgRow → Option (List Entry)
@@ -123,19 +120,8 @@ state_none rows (Some vs) = refl
 pub no_jobs : (files : Files) (rows : Rows) → all_jobs files rows.jobs ≡ None → Loads files rows None
 no_jobs files rows none = ap (λ (o : Option (List (ℕ × Held))). state_of rows (all_held files rows.versions) o) none ∙ state_none rows (all_held files rows.versions)
 
--- a list at one of its places
-split_at : {A : Type 0} (xs : List A) (i : ℕ) (x : A) → i < length xs → x ≡ get_or xs i x → xs ≡ take i xs ++ x ∷ drop (suc i) xs
-split_at xs i x lt is =
-    sym (take-append-drop i xs) ∙ ap (λ t. take i xs ++ t) (drop-cons xs i x lt) ∙ ap (λ y. take i xs ++ y ∷ drop (suc i) xs) (sym is)
-
 pub lacks_at : (files : Files) (rows : List PkgRow) (i : ℕ) (row : PkgRow) → i < length rows → row ≡ get_or rows i row → held files row ≡ None → all_held files rows ≡ None
 lacks_at files rows i row lt is none = ap (λ (rs : List PkgRow). all_held files rs) (split_at rows i row lt is) ∙ lacks_held files (take i rows) row (drop (suc i) rows) none
 
 pub lacks_job_at : (files : Files) (jobs : List (ℕ × PkgRow)) (i : ℕ) (job : ℕ × PkgRow) → i < length jobs → job ≡ get_or jobs i job → held files job.1 ≡ None → all_jobs files jobs ≡ None
 lacks_job_at files jobs i job lt is none = ap (λ (js : List (ℕ × PkgRow)). all_jobs files js) (split_at jobs i job lt is) ∙ lacks_job files (take i jobs) job (drop (suc i) jobs) none
-
--- one more of a list
-pub all_next : {A : Type 0} (P : A → Type 0) (xs : List A) (i : ℕ) (x : A) → i < length xs → x ≡ get_or xs i x → AllByRecursion P (take i xs) → P x → AllByRecursion P (take (i + 1) xs)
-all_next P xs i x lt is all p =
-    subst (AllByRecursion P) (ap (λ y. take i xs ++ y ∷ []) is ∙ sym (take-suc xs i x lt) ∙ ap (λ n. take n xs) (sym (add-one i)))
-    (All-append P (take i xs) (x ∷ []) all (p, tt))

@@ -4,12 +4,12 @@ use Rattle.std.specs.Prelude.{Err, IsErrOf}
 use Rattle.cm_log.specs.declared.shelf.Shelf.TheVariants.{PkgLib}
 use Rattle.cm_log.specs.declared.shelf.Side.TheVariants.{First}
 use Rattle.cm_log.specs.Shelves.{log_place}
-use Rattle.cm_library.specs.declared.fault.OpenFault.{OpenFault}
-use Rattle.cm_library.specs.declared.fault.OpenFault.TheVariants.{Unreadable as OpenUnreadable}
+use Rattle.cm_state.specs.declared.fault.OpenFault.{OpenFault}
+use Rattle.cm_state.specs.declared.fault.OpenFault.TheVariants.{Unreadable as OpenUnreadable}
 use Rattle.cm_log.specs.declared.faults.LogFault.{LogFault}
 use Rattle.cm_log.specs.declared.faults.LogFault.TheVariants.{Disk as LogDisk, NoLibrary as LogMissing, Unreadable as LogUnreadable}
-use Rattle.cm_library.specs.Faults.{of_log_fault}
-use Rattle.cm_library.specs.Look.{Library, Unreadable, unreadable}
+use Rattle.cm_state.specs.Faults.{of_log_fault}
+use Rattle.cm_state.specs.Look.{Library, Unreadable, unreadable}
 
 pub err_is : {T : Type 0} (a b : OpenFault) → IsErrOf {T = T} (Err a) b → a ≡ b
 err_is a b is = cc

@@ -18,20 +18,22 @@ use Rattle.cm_pkglib.specs.declared.row.PkgRow.{PkgRow}
 use Rattle.cm_pkglib.specs.declared.change.Change.TheVariants.{Done}
 use Rattle.cm_pkglib.specs.declared.fault.RowFault.TheVariants.{NoJob}
 use Rattle.cm_pkglib.specs.Rows.{Rows, fault_of, when}
-use Rattle.cm_library.specs.declared.fault.LibFault.{LibFault}
-use Rattle.cm_library.specs.declared.fault.LibFault.TheVariants.{Disk}
-use Rattle.cm_library.specs.Faults.{finish_fault, spent_or, RefusesOr}
-use Rattle.cm_library.specs.State.{State, Begun, changed, held_of, rows_of}
-use Rattle.cm_library.proofs.Loaded.{rows_begun}
+use Rattle.cm_state.specs.declared.fault.LibFault.{LibFault}
+use Rattle.cm_state.specs.declared.fault.LibFault.TheVariants.{Disk}
+use Rattle.cm_state.specs.Faults.{finish_fault, spent_or, RefusesOr}
+use Rattle.cm_state.specs.State.{State, held_of, rows_of}
+use Rattle.cm_state.specs.Changes.{Begun, changed}
+use Rattle.cm_state.proofs.Loaded.{rows_begun}
 use Rattle.cm_tree.specs.declared.gathered.GatheredFile.{GatheredFile}
 use Rattle.cm_tree.specs.GatheredFiles.{file_of, files_of}
-use Rattle.cm_library.specs.Changes.{Told, is_named, KeepsStore, KeepsFiles, IsStored, StoresPlan, AddsTree, Puts}
-use Rattle.cm_library.specs.Plans.{IsFresh, IsPlanned, IsPlan}
-use Rattle.cm_library.proofs.Elsewhere.{file_names}
-use Rattle.cm_library.proofs.Digests.{sha256_bytes}
-use Rattle.cm_library.proofs.MapKept.{all_next}
-use Rattle.cm_library.proofs.Planned.{get_at}
-use Rattle.cm_library.proofs.Members.{first_member, later_member, at_member}
+use Rattle.cm_state.specs.Adding.{Told, KeepsStore, KeepsFiles, IsStored, StoresPlan, AddsTree, Puts}
+use Rattle.cm_state.specs.Needed.{is_named}
+use Rattle.cm_contents.specs.Plans.{IsFresh, IsPlanned, IsPlan}
+use Rattle.cm_state.proofs.Elsewhere.{file_names}
+use Rattle.cm_state.proofs.Digests.{sha256_bytes}
+use Rattle.cm_state.proofs.Lists.{all_next}
+use Rattle.cm_contents.proofs.Planned.{get_at}
+use Rattle.cm_state.proofs.Members.{first_member, later_member, at_member}
 
 same_hash : (a b : List ℕ) → file_place (sha256 a) ≡ file_place (sha256 b) → sha256 a ≡ sha256 b
 same_hash a b same = file_names (sha256 a) (sha256 b) (sha256_bytes a) (sha256_bytes b) same

@@ -1,13 +1,2 @@
-pub mod Plans
-pub mod State
-pub mod Look
-pub mod Becomes
-pub mod Contents
-pub mod Changes
-pub mod Whole
-pub mod Worked
-pub mod Faults
-pub mod Replay
 pub mod Loads
-pub mod Sound
 pub mod Open

@@ -6,8 +6,8 @@ use Rattle.cm_disk.specs.Disk.{Files}
 use Rattle.cm_pkglib.specs.declared.row.PkgRow.{PkgRow}
 use Rattle.cm_pkglib.specs.Rows.{Rows}
 use Rattle.cm_tree.specs.declared.entry.Entry.{Entry}
-use Rattle.cm_library.specs.Look.{held, all_held, all_jobs, loaded}
-use Rattle.cm_library.specs.Contents.{held_with, state_with, manifest_in_map}
+use Rattle.cm_state.specs.Look.{held, all_held, all_jobs, loaded}
+use Rattle.cm_contents.specs.Contents.{held_with, state_with, manifest_in_map}
 
 abbrev pub Map : Type 0
 Map = BTreeMap (List ℕ × ℕ) (List Entry)

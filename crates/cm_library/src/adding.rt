@@ -8,18 +8,19 @@ ghost use Rattle.cm_pkglib.specs.Rows.{last_of};
 ghost use Rattle.cm_tree.specs.Trees.{File, IsFile, manifest_of};
 ghost use Rattle.cm_tree.specs.GatheredFiles.{files_of};
 ghost use Rattle.cm_filelib.specs.Places.{file_place};
-ghost use Rattle.cm_library.specs.State.{replayed};
-ghost use Rattle.cm_library.specs.Changes.{Told, AddsTree, StoresPlan, Puts, is_named};
-ghost use Rattle.cm_library.specs.Plans.{IsFresh, IsPlan};
-ghost use Rattle.cm_library.specs.Whole.{changes_of_add};
-ghost use Rattle.cm_library.specs.Faults.{begin_fault, limit_fault, Refuses};
+ghost use Rattle.cm_state.specs.Changes.{replayed};
+ghost use Rattle.cm_state.specs.Adding.{Told, AddsTree, StoresPlan, Puts};
+ghost use Rattle.cm_state.specs.Needed.{is_named};
+ghost use Rattle.cm_contents.specs.Plans.{IsFresh, IsPlan};
+ghost use Rattle.cm_state.specs.Whole.{changes_of_add};
+ghost use Rattle.cm_state.specs.Faults.{begin_fault, limit_fault, Refuses};
 ghost use Rattle.cm_library.specs.Open.{disk_of, state_of, end_of, IsOpen};
 
-use crate::fault::LibFault;
 use crate::library::Library;
-use crate::planning::{named_hashes, plan_of};
 use cm_base::{Memory, PackageId, Version};
+use cm_contents::{named_hashes, plan_of};
 use cm_disk::{Disk, DiskFault};
+use cm_state::LibFault;
 use cm_tree::{Entry, Gathered, GatheredFile};
 use std::alloc::Global;
 

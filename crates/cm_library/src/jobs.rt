@@ -9,19 +9,20 @@ ghost use Rattle.cm_log.specs.Settled.{shelf_of, place_of, end_of as log_end, is
 ghost use Rattle.cm_pkglib.specs.Changes.{spelled};
 ghost use Rattle.cm_tree.specs.Manifests.{spelling, IsManifest};
 ghost use Rattle.cm_datalib.specs.Places.{manifest_place};
-ghost use Rattle.cm_library.specs.State.{Begun, Finished, changed, held_of};
-ghost use Rattle.cm_library.specs.Changes.{Told, KeepsStore};
-ghost use Rattle.cm_library.specs.Faults.{of_row_fault, begin_fault, finish_fault, Refuses, RefusesOr};
+ghost use Rattle.cm_state.specs.Changes.{Begun, Finished, changed};
+ghost use Rattle.cm_state.specs.State.{held_of};
+ghost use Rattle.cm_state.specs.Adding.{Told, KeepsStore};
+ghost use Rattle.cm_state.specs.Faults.{of_row_fault, begin_fault, finish_fault, Refuses, RefusesOr};
 ghost use Rattle.cm_library.specs.Open.{disk_of, state_of, end_of, IsOpen};
 
 use crate::commits::add_record;
-use crate::fault::LibFault;
 use crate::library::Library;
 use cm_base::{Hash, JobId, Memory, PackageId, Version};
 use cm_datalib::store;
 use cm_disk::{Disk, DiskFault};
 use cm_log::Log;
 use cm_pkglib::{Change, PkgRow, RowFault};
+use cm_state::LibFault;
 use cm_tree::Manifest;
 use sha2::{Digest, Sha256};
 use std::alloc::Global;

@@ -1,5 +1,5 @@
 //! The library of one server.
-use crate::kept::Contents;
+use cm_contents::Contents;
 use cm_log::Log;
 use std::alloc::Global;
 

@@ -5,12 +5,12 @@ ghost use Rattle.cm_base.specs.Causes.{Rose};
 ghost use Rattle.cm_disk.specs.Disk.{LeavesNoMore};
 ghost use Rattle.cm_library.specs.Loads.{TakesOne, TakesAll, TakesJobs, Loads};
 
-use crate::fault::OpenFault;
-use crate::kept::Manifests;
 use crate::manifests::load;
 use cm_base::JobId;
+use cm_contents::Manifests;
 use cm_disk::Disk;
 use cm_pkglib::{PkgRow, Rows};
+use cm_state::OpenFault;
 use std::alloc::Global;
 use std::collections::BTreeMap;
 

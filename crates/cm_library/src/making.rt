@@ -3,8 +3,8 @@ ghost use Rattle.std.specs.Prelude.{◌≡◌, ◌≢◌, ◌≤◌, OnOk, IsErr
 ghost use Rattle.std.specs.Option.{ForSome};
 ghost use Rattle.cm_base.specs.Causes.{Rose};
 ghost use Rattle.cm_disk.specs.Disk.{Files, IsImage, LeavesOnly};
-ghost use Rattle.cm_library.specs.Look.{Missing, look};
-ghost use Rattle.cm_library.specs.Becomes.{Makes, IsMade, IsMadeOrNot};
+ghost use Rattle.cm_state.specs.Look.{Missing, look};
+ghost use Rattle.cm_state.specs.Becomes.{Makes, IsMade, IsMadeOrNot};
 
 use crate::library::Library;
 use cm_disk::Disk;

@@ -4,13 +4,13 @@ ghost use Rattle.std.specs.Option.{ForSome, option_and_then};
 ghost use Rattle.cm_base.specs.Causes.{Rose};
 ghost use Rattle.cm_disk.specs.Disk.{File, LeavesNoMore};
 ghost use Rattle.cm_datalib.specs.Loads.{loaded, Answers};
-ghost use Rattle.cm_library.specs.Look.{manifest_in, counted};
+ghost use Rattle.cm_state.specs.Look.{manifest_in, counted};
 ghost use Rattle.cm_datalib.specs.Places.{manifest_place};
 
-use crate::fault::OpenFault;
 use cm_datalib::DataFault;
 use cm_disk::Disk;
 use cm_pkglib::PkgRow;
+use cm_state::OpenFault;
 use cm_tree::Manifest;
 use std::alloc::Global;
 

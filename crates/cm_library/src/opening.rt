@@ -2,17 +2,18 @@
 ghost use Rattle.std.specs.Prelude.{◌≡◌, ◌≤◌, ℕ, List, IfOk, IfErr, IsErrOf};
 ghost use Rattle.std.specs.Option.{ForSome};
 ghost use Rattle.cm_base.specs.Causes.{Rose};
-ghost use Rattle.cm_library.specs.Look.{Missing, Unreadable, look, gate_in, has_room};
-ghost use Rattle.cm_library.specs.Open.{disk_of, end_of, StandsIn, IsOpen, IsReady};
+ghost use Rattle.cm_state.specs.Look.{Missing, Unreadable, look, gate_in, has_room};
+ghost use Rattle.cm_library.specs.Open.{disk_of, end_of, IsOpen};
+ghost use Rattle.cm_state.specs.Standing.{StandsIn, IsReady};
 
-use crate::fault::OpenFault;
-use crate::kept::Contents;
 use crate::library::Library;
 use crate::loading::load_all;
 use crate::records::{of_log, read_rows, unreadable};
+use cm_contents::Contents;
 use cm_disk::Disk;
 use cm_log::{Log, LogReader, Shelf};
 use cm_pkglib::Rows;
+use cm_state::OpenFault;
 use std::alloc::Global;
 
 /// The greatest place of a closed gate of a log.

@@ -8,16 +8,16 @@ ghost use Rattle.cm_log.specs.declared.shelf.Side.TheVariants.{First};
 ghost use Rattle.cm_log.specs.Shelves.{log_place};
 ghost use Rattle.cm_log.specs.Settled.{reader_shelf, reader_place, has_ended, rest_of, IsReading};
 ghost use Rattle.cm_pkglib.specs.Rows.{no_rows, fault_of, after};
-ghost use Rattle.cm_library.specs.Sound.{AreFit, NamesVersion};
-ghost use Rattle.cm_library.specs.Look.{Unreadable, known, library_from};
-ghost use Rattle.cm_library.specs.Faults.{of_log_fault};
-ghost use Rattle.cm_library.specs.Replay.{rows_after_body};
+ghost use Rattle.cm_state.specs.Sound.{AreFit, NamesVersion};
+ghost use Rattle.cm_state.specs.Look.{Unreadable, known, library_from};
+ghost use Rattle.cm_state.specs.Faults.{of_log_fault};
+ghost use Rattle.cm_state.specs.Replay.{rows_after_body};
 
-use crate::fault::OpenFault;
 use cm_base::Place;
 use cm_disk::Disk;
 use cm_log::{LogFault, LogReader};
 use cm_pkglib::{Change, Rows};
+use cm_state::OpenFault;
 use std::alloc::Global;
 
 // Whether a library's log has records of this kind.

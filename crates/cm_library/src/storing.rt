@@ -3,7 +3,7 @@ ghost use Rattle.std.specs.Prelude.{◌≡◌, ◌^◌, ◌<◌, length, OnOk};
 ghost use Rattle.sha2.specs.Sha256.{sha256};
 ghost use Rattle.cm_base.specs.Causes.{HasCause};
 ghost use Rattle.cm_filelib.specs.Places.{file_place};
-ghost use Rattle.cm_library.specs.Changes.{Told, Puts};
+ghost use Rattle.cm_state.specs.Adding.{Told, Puts};
 ghost use Rattle.cm_library.specs.Open.{disk_of, state_of, end_of, IsOpen};
 
 use crate::library::Library;

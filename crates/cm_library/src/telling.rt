@@ -1,13 +1,13 @@
 //! What a library tells.
 ghost use Rattle.std.specs.Prelude.{◌≡◌};
 ghost use Rattle.cm_pkglib.specs.Rows.{last_of};
-ghost use Rattle.cm_library.specs.State.{version_rows, job_rows, count_in, entries_in};
+ghost use Rattle.cm_state.specs.State.{version_rows, job_rows, count_in, entries_in};
 ghost use Rattle.cm_library.specs.Open.{disk_of, state_of};
 
 use crate::library::Library;
-use crate::row::{JobRow, VersionRow};
 use cm_base::{PackageId, Version};
 use cm_disk::Disk;
+use cm_state::{JobRow, VersionRow};
 
 impl<D: Disk> Library<D> {
     /// The versions, by package and version.

@@ -11,14 +11,15 @@ use Rattle.cm_tree.specs.declared.scan_fault.ScanFault.TheVariants.{Folder, TooM
 use Rattle.cm_tree.specs.Folders.{Agrees}
 use Rattle.cm_tree.specs.Trees.{File, manifest_of}
 use Rattle.cm_tree.specs.Scans.{Gathers, HasFault, first_fault, gathered, unless_fault}
-use Rattle.cm_library.specs.Becomes.{IsLibrary, Becomes}
-use Rattle.cm_library.specs.Changes.{Told, AddsTree}
-use Rattle.cm_library.specs.Faults.{Refuses, limit_fault, most_end}
-use Rattle.cm_library.specs.Look.{Library, Opened, look, gate_in}
-use Rattle.cm_library.specs.State.{State, replayed, count_in, entries_in, bytes_of}
-use Rattle.cm_library.specs.Whole.{AddsWholeTree, changes_of_add}
-use Rattle.cm_library.specs.declared.fault.LibFault.{LibFault}
-use Rattle.cm_library.specs.declared.fault.LibFault.TheVariants.{NoJob, VersionThere, JobThere, TooManyVersions, TooManyEntries, TooManyJobs, Spent, Memory as LibMemory, Disk as LibDisk}
+use Rattle.cm_state.specs.Becomes.{IsLibrary, Becomes}
+use Rattle.cm_state.specs.Adding.{Told, AddsTree}
+use Rattle.cm_state.specs.Faults.{Refuses, limit_fault, most_end}
+use Rattle.cm_state.specs.Look.{Library, Opened, look, gate_in}
+use Rattle.cm_state.specs.State.{State, count_in, entries_in, bytes_of}
+use Rattle.cm_state.specs.Changes.{replayed}
+use Rattle.cm_state.specs.Whole.{AddsWholeTree, changes_of_add}
+use Rattle.cm_state.specs.declared.fault.LibFault.{LibFault}
+use Rattle.cm_state.specs.declared.fault.LibFault.TheVariants.{NoJob, VersionThere, JobThere, TooManyVersions, TooManyEntries, TooManyJobs, Spent, Memory as LibMemory, Disk as LibDisk}
 use Rattle.cm_top.specs.Bays.{Seen, site}
 use Rattle.cm_top.specs.Machine.{Given, Step, replied, refusal_of, added, limited, is_spent, gathered_or, new_package, step_add}
 use Rattle.cm_top.specs.Openings.{reply_to_add}

@@ -4,11 +4,12 @@ use Rattle.std.specs.Prelude.{Option, None, Some, option_map}
 use Rattle.std.proofs.lemmas.Option.{same_Some}
 use Rattle.cm_disk.specs.Disk.{Files}
 use Rattle.cm_tree.specs.Trees.{File, Apart, manifest_of}
-use Rattle.cm_library.specs.Becomes.{IsLibrary, Becomes}
-use Rattle.cm_library.specs.Changes.{Told, AddsTree}
-use Rattle.cm_library.specs.Look.{Library, Missing, Opened, Unreadable, look}
-use Rattle.cm_library.specs.State.{State, empty, replayed}
-use Rattle.cm_library.specs.Whole.{Trees, Opens, AddsWholeTree, outline, changes_of_add, with_tree}
+use Rattle.cm_state.specs.Becomes.{IsLibrary, Becomes}
+use Rattle.cm_state.specs.Adding.{Told, AddsTree}
+use Rattle.cm_state.specs.Look.{Library, Missing, Opened, Unreadable, look}
+use Rattle.cm_state.specs.State.{State, empty}
+use Rattle.cm_state.specs.Changes.{replayed}
+use Rattle.cm_state.specs.Whole.{Trees, OpensTrees, AddsWholeTree, outline, changes_of_add, with_tree}
 use Rattle.cm_top.specs.Worlds.{Effect, Nothing, NewLibrary, NewVersion, OpensTo, OpensOn, AreApart, no_trees}
 
 -- a bay that reads as before

@@ -3,9 +3,9 @@ use Rattle.std.proofs.Common.{◌≡◌, ◌≢◌, ℕ, List, [], Option, None,
 use Rattle.std.proofs.lemmas.Option.{none-some, same_Some}
 use Rattle.std.specs.Option.{ForSome}
 use Rattle.cm_disk.specs.Disk.{Files}
-use Rattle.cm_library.specs.State.{empty}
-use Rattle.cm_library.specs.Becomes.{Makes}
-use Rattle.cm_library.specs.Look.{Library, Missing, Opened, Unreadable, look}
+use Rattle.cm_state.specs.State.{empty}
+use Rattle.cm_state.specs.Becomes.{Makes}
+use Rattle.cm_state.specs.Look.{Library, Missing, Opened, Unreadable, look}
 use Rattle.cm_top.specs.Bays.{Seen}
 use Rattle.cm_top.specs.Machine.{Given, Step, no_bay, refused_or_made, made, step_init}
 use Rattle.cm_top.specs.Runs.{Sourced, Steps, EndsOn}
@@ -15,7 +15,7 @@ use Rattle.cm_top.specs.declared.reply.Refusal.TheVariants.{NoBay}
 use Rattle.cm_top.proofs.Effects.{opens_same, opens_made}
 use Rattle.cm_top.proofs.OpenLemmas.{steps_same}
 use Rattle.cm_top.proofs.SomeFiles.{some_given, given_agrees, given_gate}
-use Rattle.cm_library.specs.Becomes.{IsLibrary}
+use Rattle.cm_state.specs.Becomes.{IsLibrary}
 use Rattle.cm_top.specs.Machine.{replied}
 
 -- a step that takes no files, with the names of `init`

@@ -4,7 +4,7 @@ use Rattle.std.specs.Str.{bytes_eq}
 use Rattle.std.proofs.lemmas.Slice.Eq.{bytes_eq-Decides}
 use Rattle.cm_base.specs.Causes.{Rose}
 use Rattle.cm_disk.specs.Disk.{Files}
-use Rattle.cm_library.specs.Look.{Library}
+use Rattle.cm_state.specs.Look.{Library}
 use Rattle.cm_top.specs.Bays.{Seen, seen, seen_bay, seen_disk, names_of, reads_of, faults_of, SameBut, site, IsSiteAlone}
 use Rattle.cm_top.specs.Machine.{Given, Step}
 use Rattle.cm_top.specs.Runs.{Sourced, Steps, EndsOn, EndsBy}

@@ -3,11 +3,11 @@ use Rattle.std.proofs.Common.{◌≡◌, ◌⊎◌, ℕ, Bool, true, false, if�
 use Rattle.cm_base.specs.Causes.{Rose}
 use Rattle.cm_disk.specs.Disk.{Files}
 use Rattle.cm_tree.specs.Folders.{Agrees}
-use Rattle.cm_library.specs.Becomes.{IsLibrary, Becomes}
-use Rattle.cm_library.specs.Look.{Library, Missing, Opened, Unreadable, gate_in}
-use Rattle.cm_library.specs.State.{State, version_rows, job_rows}
-use Rattle.cm_library.specs.declared.fault.OpenFault.{OpenFault}
-use Rattle.cm_library.specs.declared.fault.OpenFault.TheVariants.{Disk as DiskFault, NoLibrary as NoneThere, Unreadable as NotRead, Memory as NoMemory}
+use Rattle.cm_state.specs.Becomes.{IsLibrary, Becomes}
+use Rattle.cm_state.specs.Look.{Library, Missing, Opened, Unreadable, gate_in}
+use Rattle.cm_state.specs.State.{State, version_rows, job_rows}
+use Rattle.cm_state.specs.declared.fault.OpenFault.{OpenFault}
+use Rattle.cm_state.specs.declared.fault.OpenFault.TheVariants.{Disk as DiskFault, NoLibrary as NoneThere, Unreadable as NotRead, Memory as NoMemory}
 use Rattle.cm_top.specs.Bays.{Seen, site}
 use Rattle.cm_top.specs.Machine.{Given, Step, replied, listed, step_list}
 use Rattle.cm_top.specs.Openings.{reply_of}

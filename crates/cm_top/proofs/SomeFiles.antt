@@ -3,7 +3,7 @@ use Rattle.std.proofs.Common.{◌≡◌, ℕ, ◌+◌, zero, suc, List, [], ◌�
 use Rattle.std.specs.Option.{ForSome}
 use Rattle.std.proofs.lemmas.Option.{none-some, same_Some}
 use Rattle.cm_disk.specs.Disk.{Files}
-use Rattle.cm_library.specs.Look.{gate_in}
+use Rattle.cm_state.specs.Look.{gate_in}
 use Rattle.cm_top.specs.Machine.{Given}
 use Rattle.cm_tree.specs.Folders.{Shown, Agrees}
 use Rattle.cm_tree.specs.Trees.{File, file_paths}

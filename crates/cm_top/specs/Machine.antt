@@ -6,9 +6,10 @@ use Rattle.cm_tree.specs.declared.scan_fault.ScanFault.{ScanFault}
 use Rattle.cm_tree.specs.declared.scan_fault.ScanFault.TheVariants.{Folder, TooManyFiles as ManyFiles, BadPath as PathOff, SamePath as PathTwice, FileTooLong as LongFile, Memory as NoMemory}
 use Rattle.cm_tree.specs.Trees.{File, manifest_of}
 use Rattle.cm_tree.specs.Scans.{gathered}
-use Rattle.cm_library.specs.Look.{Library, Missing, Opened, Unreadable}
-use Rattle.cm_library.specs.State.{State, empty, replayed, count_in, entries_in, bytes_of, version_rows, job_rows}
-use Rattle.cm_library.specs.Whole.{changes_of_add}
+use Rattle.cm_state.specs.Look.{Library, Missing, Opened, Unreadable}
+use Rattle.cm_state.specs.State.{State, empty, count_in, entries_in, bytes_of, version_rows, job_rows}
+use Rattle.cm_state.specs.Changes.{replayed}
+use Rattle.cm_state.specs.Whole.{changes_of_add}
 use Rattle.cm_top.specs.Worlds.{Effect, Nothing, NewLibrary, NewVersion}
 use Rattle.cm_top.specs.Bays.{site}
 use Rattle.cm_top.specs.declared.reply.Refusal.TheVariants.{PackageThere, TooManyVersions, TooManyEntries, Spent, NoBay, BadPath, SamePath, TooManyFiles, FileTooLong}

@@ -1,9 +1,9 @@
 -- Why a library is not opened, or takes no new package, as a reply.
 use Rattle.std.specs.Prelude.{ℕ, List}
-use Rattle.cm_library.specs.declared.fault.OpenFault.{OpenFault}
-use Rattle.cm_library.specs.declared.fault.OpenFault.TheVariants.{Disk as DiskFault, NoLibrary as NoneThere, Unreadable as NotRead, Memory as NoMemory}
-use Rattle.cm_library.specs.declared.fault.LibFault.{LibFault}
-use Rattle.cm_library.specs.declared.fault.LibFault.TheVariants.{NoJob, VersionThere, JobThere, TooManyVersions, TooManyEntries, TooManyJobs, Spent, Memory as LibMemory, Disk as LibDisk}
+use Rattle.cm_state.specs.declared.fault.OpenFault.{OpenFault}
+use Rattle.cm_state.specs.declared.fault.OpenFault.TheVariants.{Disk as DiskFault, NoLibrary as NoneThere, Unreadable as NotRead, Memory as NoMemory}
+use Rattle.cm_state.specs.declared.fault.LibFault.{LibFault}
+use Rattle.cm_state.specs.declared.fault.LibFault.TheVariants.{NoJob, VersionThere, JobThere, TooManyVersions, TooManyEntries, TooManyJobs, Spent, Memory as LibMemory, Disk as LibDisk}
 use Rattle.cm_top.specs.declared.reply.Refusal.TheVariants.{TooManyVersions as ManyVersions, TooManyEntries as ManyEntries, Spent as NoneLeft}
 use Rattle.cm_top.specs.declared.reply.Reply.{Reply}
 use Rattle.cm_top.specs.declared.reply.Reply.TheVariants.{Refused, Disk, Memory, NoLibrary, Unreadable}

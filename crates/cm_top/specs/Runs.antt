@@ -4,8 +4,8 @@ use Rattle.std.specs.Option.{ForSome}
 use Rattle.cm_base.specs.Causes.{Rose}
 use Rattle.cm_base.specs.Streams.{Gets, GetsFront}
 use Rattle.cm_disk.specs.Disk.{Files}
-use Rattle.cm_library.specs.Becomes.{IsLibrary, Becomes}
-use Rattle.cm_library.specs.Look.{Library, gate_in}
+use Rattle.cm_state.specs.Becomes.{IsLibrary, Becomes}
+use Rattle.cm_state.specs.Look.{Library, gate_in}
 use Rattle.cm_tree.specs.Folders.{Shown, Agrees}
 use Rattle.cm_top.specs.Bays.{Seen, site, reads_of, faults_of, SameBut}
 use Rattle.cm_top.specs.Machine.{Given, Step, step_init, step_add, step_list}

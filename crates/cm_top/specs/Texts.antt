@@ -2,8 +2,8 @@
 use Rattle.std.specs.Prelude.{ℕ, List, [], ◌∷◌, ◌++◌, codes}
 use Rattle.std.specs.List.{flat_map}
 use Rattle.std.specs.Fmt.{decimal}
-use Rattle.cm_library.specs.declared.row.VersionRow.{VersionRow}
-use Rattle.cm_library.specs.declared.row.JobRow.{JobRow}
+use Rattle.cm_state.specs.declared.row.VersionRow.{VersionRow}
+use Rattle.cm_state.specs.declared.row.JobRow.{JobRow}
 use Rattle.cm_top.specs.declared.fault.WordsFault.{WordsFault}
 use Rattle.cm_top.specs.declared.fault.WordsFault.TheVariants.{NoCommand, UnknownCommand, BadValue, MissingWord, ExtraWord, Memory as NoMemory}
 use Rattle.cm_top.specs.declared.reply.Refusal.{Refusal}

@@ -3,8 +3,8 @@ use Rattle.std.specs.Prelude.{◌≡◌, ℕ, List, [], ◌++◌, Option, None, 
 use Rattle.std.specs.Option.{ForSome}
 use Rattle.cm_disk.specs.Disk.{Files}
 use Rattle.cm_tree.specs.Trees.{File, Apart}
-use Rattle.cm_library.specs.Look.{Missing, look}
-use Rattle.cm_library.specs.Whole.{Trees, Opens, with_tree, bytes_of_tree, bytes_of_trees}
+use Rattle.cm_state.specs.Look.{Missing, look}
+use Rattle.cm_state.specs.Whole.{Trees, OpensTrees, with_tree, bytes_of_tree, bytes_of_trees}
 
 -- what a command commits: nothing, a new library, or version 1 of a package with its whole tree
 pub data Effect : Type 0 where
@@ -19,7 +19,7 @@ no_trees = record { versions = []; jobs = []; next = 1; lasts = [] }
 -- these files are a library with these whole trees, or no library
 abbrev pub OpensTo : Files → Option Trees → Type 0
 OpensTo files None = look files ≡ Missing
-OpensTo files (Some trees) = Opens files trees
+OpensTo files (Some trees) = OpensTrees files trees
 
 -- the library after a command
 abbrev pub after_effect : Effect → Option Trees → Option Trees

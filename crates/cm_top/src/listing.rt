@@ -1,7 +1,7 @@
 //! The command `list`.
 ghost use Rattle.std.specs.Prelude.{◌≡◌, ◌⊎◌, IfOk, List};
 ghost use Rattle.cm_library.specs.Open.{state_of};
-ghost use Rattle.cm_library.specs.State.{version_rows, job_rows};
+ghost use Rattle.cm_state.specs.State.{version_rows, job_rows};
 ghost use Rattle.cm_top.specs.Bays.{seen, seen_disk, site, SameBut, IsSiteAlone};
 ghost use Rattle.cm_top.specs.Machine.{step_list, listed};
 ghost use Rattle.cm_top.specs.Runs.{EndsOn, EndsBy, Sourced};

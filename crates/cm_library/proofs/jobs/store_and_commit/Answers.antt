@@ -7,7 +7,7 @@ use Rattle.cm_log.specs.Shelves.{IsElsewhere}
 use Rattle.cm_log.specs.Settled.{IsSettled}
 use Rattle.cm_tree.specs.Manifests.{spelling}
 use Rattle.cm_datalib.specs.Places.{manifest_place}
-use Rattle.cm_library.proofs.Standing.{manifest_elsewhere, settled_put}
+use Rattle.cm_state.proofs.Standing.{manifest_elsewhere, settled_put}
 use Rattle.cm_library.proofs.jobs.store_and_commit.Goals as goal
 
 pub add_record-requires-clause-settled : goal.add_record-requires-clause-settled

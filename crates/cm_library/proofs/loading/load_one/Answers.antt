@@ -1,4 +1,4 @@
-use Rattle.cm_library.proofs.Keeping.{puts_manifest}
+use Rattle.cm_contents.proofs.Keeping.{puts_manifest}
 use Rattle.cm_library.proofs.MapKept.{takes_one}
 use Rattle.cm_library.proofs.loading.load_one.Goals as goal
 

@@ -3,7 +3,8 @@ use Rattle.std.proofs.lemmas.Bool.{false≢true}
 use Rattle.cm_pkglib.proofs.Among.{All-map}
 use Rattle.std.proofs.Common.{take}
 use Rattle.cm_library.specs.Loads.{IsKept}
-use Rattle.cm_library.proofs.MapKept.{lacks_at, all_next}
+use Rattle.cm_library.proofs.MapKept.{lacks_at}
+use Rattle.cm_state.proofs.Lists.{all_next}
 use Rattle.cm_library.proofs.loading.load_versions.Goals as goal
 
 pub returns-in-Ok-false-clause-kept : goal.returns-in-Ok-false-clause-kept

@@ -3,21 +3,21 @@ use Rattle.std.specs.Prelude.{Result, IsErrOf}
 use Rattle.cm_log.specs.declared.state.Log.{Log}
 use Rattle.cm_log.specs.declared.position.LogReader.{LogReader}
 use Rattle.cm_log.specs.declared.faults.LogFault.{LogFault}
-use Rattle.cm_library.specs.declared.kept.Contents.{Contents}
-use Rattle.cm_library.specs.declared.fault.OpenFault.{OpenFault}
-use Rattle.cm_library.specs.declared.fault.OpenFault.TheVariants.{Unreadable}
+use Rattle.cm_contents.specs.declared.contents.Contents.{Contents}
+use Rattle.cm_state.specs.declared.fault.OpenFault.{OpenFault}
+use Rattle.cm_state.specs.declared.fault.OpenFault.TheVariants.{Unreadable}
 use Rattle.cm_log.specs.Settled.{end_of}
 use Rattle.cm_log.proofs.Done.{settled_when_done}
 use Rattle.cm_pkglib.specs.InMemory.{RowsInMemory}
 use Rattle.cm_pkglib.specs.Rows.{Rows}
-use Rattle.cm_library.specs.State.{State, rows_of}
-use Rattle.cm_library.specs.Look.{Unreadable as UnreadableLibrary, has_room, look}
-use Rattle.cm_library.specs.Sound.{AreFit}
-use Rattle.cm_library.specs.Contents.{manifest_in_map, state_with}
-use Rattle.cm_library.proofs.Keeping.{rows_back}
-use Rattle.cm_library.proofs.Standing.{settled_kept}
+use Rattle.cm_state.specs.State.{State, rows_of}
+use Rattle.cm_state.specs.Look.{Unreadable as UnreadableLibrary, has_room, look}
+use Rattle.cm_state.specs.Sound.{AreFit}
+use Rattle.cm_contents.specs.Contents.{manifest_in_map, state_with}
+use Rattle.cm_contents.proofs.Keeping.{rows_back}
+use Rattle.cm_state.proofs.Standing.{settled_kept}
 use Rattle.cm_library.proofs.Naming.{err_is, log_named, named}
-use Rattle.cm_library.proofs.Opens.{look_broken, look_closed, look_unread, no_room, none_loaded, all_loaded}
+use Rattle.cm_state.proofs.Opens.{look_broken, look_closed, look_unread, no_room, none_loaded, all_loaded}
 use Rattle.cm_library.proofs.opening.read_library.Goals as goal
 
 pub returns-in-Err-clause-unreadable : goal.returns-in-Err-clause-unreadable

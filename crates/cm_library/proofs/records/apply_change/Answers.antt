@@ -1,7 +1,7 @@
 use Rattle.std.proofs.Common.{sym, ap, subst}
 use Rattle.cm_pkglib.specs.InMemory.{RowsInMemory}
-use Rattle.cm_library.specs.Sound.{AreFit}
-use Rattle.cm_library.proofs.Soundness.{after_fit}
+use Rattle.cm_state.specs.Sound.{AreFit}
+use Rattle.cm_state.proofs.Soundness.{after_fit}
 use Rattle.cm_library.proofs.records.apply_change.Goals as goal
 
 pub returns-in-Ok-clause-fit : goal.returns-in-Ok-clause-fit

@@ -3,8 +3,8 @@ use Rattle.std.specs.Option.{ForSome}
 use Rattle.cm_disk.specs.Disk.{LeavesNoMore}
 use Rattle.cm_log.specs.Settled.{reader_shelf, reader_place, rest_of, IsReading}
 use Rattle.cm_pkglib.specs.Rows.{no_rows}
-use Rattle.cm_library.specs.Sound.{AreFit}
-use Rattle.cm_library.specs.Look.{library_from}
+use Rattle.cm_state.specs.Sound.{AreFit}
+use Rattle.cm_state.specs.Look.{library_from}
 use Rattle.cm_library.proofs.records.read_rows.Given as goal
 
 abbrev pub invariant-loop-record : goal.invariant-loop-record

@@ -1,10 +1,10 @@
 use Rattle.std.proofs.Common.{Bool, Result, Ok, take, sym, ◌∙◌, ap, Some}
 use Rattle.cm_log.specs.Logs.{Reading}
 use Rattle.cm_log.specs.Settled.{rest_of, reader_at, reader_place}
-use Rattle.cm_library.specs.declared.fault.OpenFault.{OpenFault}
-use Rattle.cm_library.specs.Look.{library_from}
+use Rattle.cm_state.specs.declared.fault.OpenFault.{OpenFault}
+use Rattle.cm_state.specs.Look.{library_from}
 use Rattle.cm_library.proofs.Naming.{named}
-use Rattle.cm_library.proofs.Steps.{closes, refuses}
+use Rattle.cm_state.proofs.Steps.{closes, refuses}
 use Rattle.cm_library.proofs.records.take_record.Goals as goal
 
 pub returns-in-Ok-None-clause-goes_on : goal.returns-in-Ok-None-clause-goes_on

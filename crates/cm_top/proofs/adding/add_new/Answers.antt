@@ -1,7 +1,7 @@
 use Rattle.std.proofs.Common.{◌≡◌, ℕ, ◌≤◌, refl, sym, subst}
 use Rattle.std.proofs.lemmas.Bool.{le-leb}
 use Rattle.cm_library.specs.Open.{disk_of, end_of, state_of}
-use Rattle.cm_library.specs.State.{count_in}
+use Rattle.cm_state.specs.State.{count_in}
 use Rattle.cm_top.specs.Bays.{seen_disk}
 use Rattle.cm_top.specs.Machine.{step_add}
 use Rattle.cm_top.specs.Runs.{EndsOn}

@@ -3,11 +3,12 @@ use Rattle.std.specs.Prelude.{Result, Err}
 use Rattle.std.proofs.lemmas.List.{length-map}
 use Rattle.cm_tree.specs.Trees.{File, manifest_of}
 use Rattle.cm_tree.specs.GatheredFiles.{file_of}
-use Rattle.cm_library.specs.declared.fault.LibFault.{LibFault}
+use Rattle.cm_state.specs.declared.fault.LibFault.{LibFault}
 use Rattle.cm_library.specs.declared.library.Library.{Library}
 use Rattle.cm_library.specs.Open.{disk_of, end_of, state_of}
-use Rattle.cm_library.specs.State.{replayed, bytes_of}
-use Rattle.cm_library.specs.Whole.{changes_of_add}
+use Rattle.cm_state.specs.Changes.{replayed}
+use Rattle.cm_state.specs.State.{bytes_of}
+use Rattle.cm_state.specs.Whole.{changes_of_add}
 use Rattle.cm_top.specs.Bays.{seen_disk}
 use Rattle.cm_top.specs.Machine.{step_add}
 use Rattle.cm_top.specs.Runs.{Steps, EndsOn}

@@ -4,7 +4,7 @@ use Rattle.cm_tree.specs.declared.entry.Entry.{Entry}
 use Rattle.cm_tree.specs.Trees.{File, entry_of, manifest_of}
 use Rattle.cm_tree.specs.GatheredFiles.{file_of, files_of}
 use Rattle.cm_tree.proofs.Scanned.{files_next, manifest_push, file_short}
-use Rattle.cm_library.specs.State.{bytes_of}
+use Rattle.cm_state.specs.State.{bytes_of}
 use Rattle.cm_top.proofs.adding.total.Goals as goal
 
 one_more : (files next : List File) (file : File) (total : ℕ) → next ≡ files ++ file ∷ [] → total ≡ bytes_of (manifest_of files) → total + length file.bytes ≡ bytes_of (manifest_of next)

@@ -1,5 +1,5 @@
 use Rattle.std.proofs.Common.{◌≡◌, ◌≤◌, ◌*◌, take}
-use Rattle.cm_library.specs.State.{bytes_of}
+use Rattle.cm_state.specs.State.{bytes_of}
 use Rattle.cm_tree.specs.Trees.{manifest_of}
 use Rattle.cm_tree.specs.GatheredFiles.{files_of}
 use Rattle.cm_top.proofs.adding.total.Given as goal

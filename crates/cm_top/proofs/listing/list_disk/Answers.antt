@@ -1,6 +1,6 @@
 use Rattle.std.proofs.Common.{◌≡◌, refl, sym, ◌∙◌, ap, subst}
 use Rattle.cm_disk.specs.Disk.{Files}
-use Rattle.cm_library.specs.Look.{Library, look, Opened}
+use Rattle.cm_state.specs.Look.{Library, look, Opened}
 use Rattle.cm_library.specs.Open.{state_of}
 use Rattle.cm_top.specs.Bays.{seen_disk}
 use Rattle.cm_top.specs.Runs.{EndsOn}

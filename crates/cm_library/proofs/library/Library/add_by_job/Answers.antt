@@ -5,12 +5,14 @@ use Rattle.cm_base.specs.declared.hash.Hash.{Hash}
 use Rattle.cm_tree.specs.declared.entry.Entry.{Entry}
 use Rattle.cm_tree.specs.Trees.{File}
 use Rattle.cm_tree.specs.GatheredFiles.{files_of}
-use Rattle.cm_library.specs.declared.fault.LibFault.{LibFault}
-use Rattle.cm_library.specs.declared.fault.LibFault.TheVariants.{Disk}
-use Rattle.cm_library.specs.State.{State, Begun, changed}
-use Rattle.cm_library.specs.Changes.{StoresPlan, is_named}
-use Rattle.cm_library.specs.Plans.{IsPlan}
-use Rattle.cm_library.specs.Faults.{finish_fault}
+use Rattle.cm_state.specs.declared.fault.LibFault.{LibFault}
+use Rattle.cm_state.specs.declared.fault.LibFault.TheVariants.{Disk}
+use Rattle.cm_state.specs.State.{State}
+use Rattle.cm_state.specs.Changes.{Begun, changed}
+use Rattle.cm_state.specs.Adding.{StoresPlan}
+use Rattle.cm_state.specs.Needed.{is_named}
+use Rattle.cm_contents.specs.Plans.{IsPlan}
+use Rattle.cm_state.specs.Faults.{finish_fault}
 use Rattle.cm_library.proofs.StoredTree.{adds_tree, may_finish, only_disk}
 use Rattle.cm_library.proofs.library.Library.add_by_job.Goals as goal
 

@@ -1,5 +1,5 @@
 use Rattle.cm_log.specs.Settled.{end_of}
-use Rattle.cm_library.proofs.Unopened.{refused_by_limits}
+use Rattle.cm_state.proofs.Unopened.{refused_by_limits}
 use Rattle.cm_library.proofs.library.Library.add_tree.Goals as goal
 
 pub returns-clause-limits : goal.returns-clause-limits

@@ -12,10 +12,11 @@ use Rattle.cm_pkglib.specs.Rows.{opened_fault}
 use Rattle.cm_tree.specs.declared.entry.Entry.{Entry}
 use Rattle.cm_tree.specs.Manifests.{spelling}
 use Rattle.cm_datalib.specs.Places.{manifest_place}
-use Rattle.cm_library.specs.State.{State, Begun, changed, rows_of}
-use Rattle.cm_library.specs.Open.{StandsIn}
-use Rattle.cm_library.proofs.Begun.{opening, opening_length, begun_stands, begun_room}
-use Rattle.cm_library.proofs.Ready.{begun_ready, keeps_file_put, not_spent, record_length, finds_room, opening_is}
+use Rattle.cm_state.specs.State.{State, rows_of}
+use Rattle.cm_state.specs.Changes.{Begun, changed}
+use Rattle.cm_state.specs.Standing.{StandsIn}
+use Rattle.cm_state.proofs.Begun.{opening, opening_length, begun_stands, begun_room}
+use Rattle.cm_state.proofs.Ready.{begun_ready, keeps_file_put, not_spent, record_length, finds_room, opening_is}
 use Rattle.cm_library.proofs.library.Library.begin_with.Goals as goal
 
 pub store_and_commit-requires-clause-settled : goal.store_and_commit-requires-clause-settled

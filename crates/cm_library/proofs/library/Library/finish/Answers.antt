@@ -5,10 +5,10 @@ use Rattle.cm_disk.proofs.Puts.{told_before}
 use Rattle.cm_log.specs.Settled.{shelf_of, place_of, end_of, Adds}
 use Rattle.cm_pkglib.specs.Changes.{spelled}
 use Rattle.cm_pkglib.specs.declared.change.Change.TheVariants.{Done}
-use Rattle.cm_library.specs.State.{State}
-use Rattle.cm_library.specs.Open.{StandsIn}
-use Rattle.cm_library.proofs.Begun.{finished_stands, finished_room}
-use Rattle.cm_library.proofs.Ready.{finished_ready, keeps_file}
+use Rattle.cm_state.specs.State.{State}
+use Rattle.cm_state.specs.Standing.{StandsIn}
+use Rattle.cm_state.proofs.Begun.{finished_stands, finished_room}
+use Rattle.cm_state.proofs.Ready.{finished_ready, keeps_file}
 use Rattle.cm_library.proofs.library.Library.finish.Goals as goal
 
 pub add_record-requires-clause-settled : goal.add_record-requires-clause-settled

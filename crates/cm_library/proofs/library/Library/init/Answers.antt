@@ -9,8 +9,8 @@ use Rattle.cm_log.specs.Settled.{Makes as MakesLog, Rests, IsMaking}
 use Rattle.cm_log.specs.Shelves.{ready_place, log_place}
 use Rattle.cm_log.specs.declared.shelf.Side.{Side}
 use Rattle.cm_log.proofs.Shelveds.{alike}
-use Rattle.cm_library.specs.Becomes.{Makes, IsMade, IsMadeOrNot}
-use Rattle.cm_library.proofs.Looks.{missing, not_missing, opens_empty}
+use Rattle.cm_state.specs.Becomes.{Makes, IsMade, IsMadeOrNot}
+use Rattle.cm_state.proofs.Looks.{missing, not_missing, opens_empty}
 use Rattle.cm_library.proofs.library.Library.init.Goals as goal
 
 made : (old new : Option Files) (result : Result (Unit {0}) CreateFault) → OnOk result (ForSome old (λ files. (now : Files) × (new ≡ Some now) × MakesLog PkgLib files now)) → OnOk result (Makes old new)

@@ -3,8 +3,8 @@ use Rattle.std.proofs.lemmas.Option.{same_Some}
 use Rattle.cm_disk.specs.Disk.{put}
 use Rattle.cm_disk.proofs.Puts.{told_before}
 use Rattle.cm_filelib.specs.Places.{file_place}
-use Rattle.cm_library.proofs.OnEach.{on_each}
-use Rattle.cm_library.proofs.Standing.{stored_at}
+use Rattle.cm_state.proofs.OnEach.{on_each}
+use Rattle.cm_state.proofs.Standing.{stored_at}
 use Rattle.cm_library.proofs.library.Library.store.Goals as goal
 
 pub returns-clause-open : goal.returns-clause-open

@@ -5,8 +5,8 @@ use Rattle.cm_tree.specs.declared.entry.Entry.{Entry}
 use Rattle.cm_tree.specs.GatheredFiles.{file_of, files_of}
 use Rattle.cm_tree.specs.Trees.{File, IsFile}
 use Rattle.cm_filelib.specs.Places.{file_place}
-use Rattle.cm_library.proofs.OnEach.{on_each}
-use Rattle.cm_library.proofs.Members.{at_member}
+use Rattle.cm_state.proofs.OnEach.{on_each}
+use Rattle.cm_state.proofs.Members.{at_member}
 use Rattle.cm_library.proofs.StoredTree.{pair_at, member_at, told_as}
 use Rattle.cm_library.proofs.library.Library.store_one.Goals as goal
 

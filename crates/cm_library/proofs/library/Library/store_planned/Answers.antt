@@ -3,8 +3,8 @@ use Rattle.std.specs.List.{AllByRecursion}
 use Rattle.cm_base.specs.declared.hash.Hash.{Hash}
 use Rattle.cm_tree.specs.declared.entry.Entry.{Entry}
 use Rattle.cm_tree.specs.GatheredFiles.{files_of}
-use Rattle.cm_library.specs.Changes.{is_named}
-use Rattle.cm_library.specs.Plans.{IsFresh}
+use Rattle.cm_state.specs.Needed.{is_named}
+use Rattle.cm_contents.specs.Plans.{IsFresh}
 use Rattle.cm_library.proofs.StoredTree.{to_store, at_number, plan_step, get_any}
 use Rattle.cm_library.proofs.library.Library.store_planned.Goals as goal
 

@@ -1,6 +1,6 @@
 use Rattle.std.proofs.Common.{◌≡◌, ◌≤◌, take}
 use Rattle.cm_tree.specs.GatheredFiles.{files_of}
-use Rattle.cm_library.specs.Changes.{Told, StoresPlan}
+use Rattle.cm_state.specs.Adding.{Told, StoresPlan}
 use Rattle.cm_library.specs.Open.{disk_of, state_of, end_of, IsOpen}
 use Rattle.cm_library.proofs.library.Library.store_planned.Given as goal
 

@@ -1,0 +1,10 @@
+use Rattle.std.proofs.Common.{◌≡◌, take}
+use Rattle.std.specs.Prelude.{◌||◌}
+use Rattle.std.specs.BTreeSet.{contains}
+use Rattle.cm_base.specs.declared.hash.Hash.{Hash}
+use Rattle.cm_state.specs.Needed.{has_hash}
+use Rattle.cm_contents.specs.Plans.{hash_cmp}
+use Rattle.cm_contents.proofs.planning.add_hashes.Given as goal
+
+abbrev pub invariant-loop-entry : goal.invariant-loop-entry
+invariant-loop-entry l = (q : Hash) → contains hash_cmp l.set q ≡ (contains hash_cmp l.fn.set q || has_hash q.0 (take l.entry-index l.entries))

@@ -1,0 +1,64 @@
+-- What a library keeps in memory, as a state.
+use Rattle.std.specs.Prelude.{◌≡◌, ℕ, ◌+◌, ◌≤◌, Bool, false, if◌then◌else◌, List, [], ◌∷◌, length, map, Option, Some, None, unwrap_or}
+use Rattle.std.specs.declared.cmp.Ordering.{Ordering}
+use Rattle.std.specs.Ordering.{nat_cmp, is_lt, ordering_then}
+use Rattle.std.specs.Cmp.Lexicographic.{slice_cmp}
+use Rattle.std.specs.BTreeMap.{BTreeMap, get}
+use Rattle.cm_pkglib.specs.declared.row.PkgRow.{PkgRow}
+use Rattle.cm_pkglib.specs.Rows.{Rows, is_of}
+use Rattle.cm_tree.specs.declared.entry.Entry.{Entry}
+use Rattle.cm_state.specs.declared.row.VersionRow.{VersionRow}
+use Rattle.cm_state.specs.declared.row.JobRow.{JobRow}
+use Rattle.cm_state.specs.State.{Held, State, version_rows, job_rows}
+
+-- a row with the manifest that is found for its package and version
+abbrev pub held_with : (List ℕ → ℕ → List Entry) → PkgRow → Held
+held_with find row = record { row = row; manifest = find row.package row.version }
+
+abbrev pub job_held_with : (List ℕ → ℕ → List Entry) → ℕ × PkgRow → ℕ × Held
+job_held_with find job = (job.0, held_with find job.1)
+
+-- the state of rows with the manifests that are found
+abbrev pub state_with : (List ℕ → ℕ → List Entry) → Rows → State
+state_with find rows = record {
+  versions = map (held_with find) rows.versions;
+  jobs = map (job_held_with find) rows.jobs;
+  next = rows.next;
+  lasts = rows.lasts;
+}
+
+-- the order of versions: by package, then by number
+abbrev pub key_cmp : List ℕ × ℕ → List ℕ × ℕ → Ordering
+key_cmp a b = ordering_then (slice_cmp nat_cmp a.0 b.0) (nat_cmp a.1 b.1)
+
+-- the manifest that a map has for a version, or the empty one
+abbrev pub manifest_in_map : BTreeMap (List ℕ × ℕ) (List Entry) → List ℕ → ℕ → List Entry
+manifest_in_map manifests id version = unwrap_or (get key_cmp manifests (id, version)) []
+
+-- a manifest more in the map
+pub record PutsManifest (old new : BTreeMap (List ℕ × ℕ) (List Entry)) (id : List ℕ) (version : ℕ) (manifest : List Entry) : Type 0 where
+  pub here : manifest_in_map new id version ≡ manifest
+  pub others : (row : PkgRow) → is_of id version row ≡ false → manifest_in_map new row.package row.version ≡ manifest_in_map old row.package row.version
+
+-- a told version stands before another
+abbrev pub told_before : VersionRow → VersionRow → Bool
+told_before a b = is_lt (ordering_then (slice_cmp nat_cmp a.package b.package) (nat_cmp a.version b.version))
+
+-- one told version more, at its place
+abbrev pub with_told : VersionRow → List VersionRow → List VersionRow
+with_told row [] = row ∷ []
+with_told row (first ∷ rest) = if told_before row first then row ∷ first ∷ rest else first ∷ with_told row rest
+
+-- the version of a finished job, as it is told
+abbrev pub finished_row : JobRow → VersionRow
+finished_row job = record { «package» = job.package; version = job.version; entries = job.entries; bytes = job.bytes; hash = job.hash }
+
+abbrev pub with_told_done : Option JobRow → List VersionRow → List VersionRow
+with_told_done None rows = rows
+with_told_done (Some job) rows = with_told (finished_row job) rows
+
+-- the told rows are those of the state, and there is room for each job's end
+pub record AreTold (state : State) (versions : List VersionRow) (jobs : List JobRow) (room : ℕ) : Type 0 where
+  pub versions_told : versions ≡ version_rows state
+  pub jobs_told : jobs ≡ job_rows state
+  pub enough : length versions + length jobs ≤ room

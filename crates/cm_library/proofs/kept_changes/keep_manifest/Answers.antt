@@ -1,5 +1,0 @@
-use Rattle.cm_library.proofs.Keeping.{puts_manifest}
-use Rattle.cm_library.proofs.kept_changes.keep_manifest.Goals as goal
-
-pub returns-in-Ok-clause-put : goal.returns-in-Ok-clause-put
-returns-in-Ok-clause-put c = puts_manifest c.args.manifests.now c.insert.new.self c.args.row.now.package c.args.row.now.version c.args.manifest c.in-Ok.ensures.updates

@@ -1,7 +1,0 @@
-use Rattle.std.proofs.Common.{◌≡◌, ◌==◌, drop}
-use Rattle.std.specs.Prelude.{find}
-use Rattle.cm_library.specs.declared.row.JobRow.{JobRow}
-use Rattle.cm_library.proofs.told.told_job.Given as goal
-
-abbrev pub invariant-loop-row : goal.invariant-loop-row
-invariant-loop-row l = find (λ (row : JobRow). row.job == l.job) l.jobs ≡ find (λ (row : JobRow). row.job == l.job) (drop l.row-index l.jobs)

@@ -1,6 +1,0 @@
-use Rattle.std.proofs.Common.{◌≡◌, ◌++◌, take, drop}
-use Rattle.cm_library.specs.Contents.{with_told}
-use Rattle.cm_library.proofs.told.told_place.Given as goal
-
-abbrev pub invariant-loop-i : goal.invariant-loop-i
-invariant-loop-i l = with_told l.row l.rows ≡ take l.i l.rows ++ with_told l.row (drop l.i l.rows)

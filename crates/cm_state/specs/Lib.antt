@@ -1,0 +1,16 @@
+pub mod Adding
+pub mod Becomes
+pub mod Changes
+pub mod Faults
+pub mod Look
+pub mod Needed
+pub mod Opens
+pub mod Replay
+pub mod Runs
+pub mod Sound
+pub mod Standing
+pub mod State
+pub mod Steps
+pub mod Sure
+pub mod Whole
+pub mod Worked

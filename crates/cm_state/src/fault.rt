@@ -1,0 +1,103 @@
+//! What the calls of a library refuse.
+ghost use Rattle.std.specs.Prelude.{◌≡◌};
+
+use cm_base::{JobId, Memory, Place};
+use cm_disk::DiskFault;
+use std::alloc::AllocError;
+
+/// Why a library was not opened.
+#[derive(Clone, Copy, PartialEq, Eq)]
+pub enum OpenFault {
+    /// The disk failed.
+    Disk,
+    /// There is no library.
+    NoLibrary,
+    /// What is there is no library, at this place from this byte on. A record that is off the grammar or refused, a log
+    /// without room for the ends of its jobs and versions, and a stored manifest that is wrong are named `PkgLib/log.0` at 0.
+    Unreadable { place: Place, at: u64 },
+    /// There was no memory.
+    Memory,
+}
+
+/// Why a call refuses: the first cause that holds, in this order.
+#[derive(Clone, Copy, Debug, PartialEq, Eq)]
+pub enum LibFault {
+    /// The job is not unfinished.
+    NoJob,
+    /// The version is there.
+    VersionThere,
+    /// That unfinished job has this package and version.
+    JobThere { job: JobId },
+    /// Versions and unfinished jobs are 8,192.
+    TooManyVersions,
+    /// Their entries would pass 400,000.
+    TooManyEntries,
+    /// 256 jobs are unfinished.
+    TooManyJobs,
+    /// The next job number is 2^64 - 1, or the log's end is past 2^40 - 1,048,576.
+    Spent,
+    /// There was no memory.
+    Memory,
+    /// The disk failed.
+    Disk,
+}
+
+impl From<DiskFault> for OpenFault {
+    ghost use Rattle.cm_state.specs.declared.fault.OpenFault.{OpenFault};
+
+    ghost from_gives = { λ _ fault. fault ≡ OpenFault.Disk };
+
+    fn from(_: DiskFault) -> Self {
+        OpenFault::Disk
+    }
+}
+
+impl From<Memory> for OpenFault {
+    ghost use Rattle.cm_state.specs.declared.fault.OpenFault.{OpenFault};
+
+    ghost from_gives = { λ _ fault. fault ≡ OpenFault.Memory };
+
+    fn from(_: Memory) -> Self {
+        OpenFault::Memory
+    }
+}
+
+impl From<AllocError> for OpenFault {
+    ghost use Rattle.cm_state.specs.declared.fault.OpenFault.{OpenFault};
+
+    ghost from_gives = { λ _ fault. fault ≡ OpenFault.Memory };
+
+    fn from(_: AllocError) -> Self {
+        OpenFault::Memory
+    }
+}
+
+impl From<DiskFault> for LibFault {
+    ghost use Rattle.cm_state.specs.declared.fault.LibFault.{LibFault};
+
+    ghost from_gives = { λ _ fault. fault ≡ LibFault.Disk };
+
+    fn from(_: DiskFault) -> Self {
+        LibFault::Disk
+    }
+}
+
+impl From<Memory> for LibFault {
+    ghost use Rattle.cm_state.specs.declared.fault.LibFault.{LibFault};
+
+    ghost from_gives = { λ _ fault. fault ≡ LibFault.Memory };
+
+    fn from(_: Memory) -> Self {
+        LibFault::Memory
+    }
+}
+
+impl From<AllocError> for LibFault {
+    ghost use Rattle.cm_state.specs.declared.fault.LibFault.{LibFault};
+
+    ghost from_gives = { λ _ fault. fault ≡ LibFault.Memory };
+
+    fn from(_: AllocError) -> Self {
+        LibFault::Memory
+    }
+}

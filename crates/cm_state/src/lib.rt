@@ -1,0 +1,15 @@
+//! The state of a library: what files are one, what changes it, what each image of a disk opens to.
+#![tactic(auto)]
+
+mod fault;
+mod laws;
+mod row;
+mod worked;
+
+pub use fault::{LibFault, OpenFault};
+pub use laws::{
+    a_tree_opens, adding_keeps_trees_whole, every_image_opens_to_a_prefix, files_open_to_one_state,
+    trees_are_whole,
+};
+pub use row::{JobRow, VersionRow};
+pub use worked::three_files;
