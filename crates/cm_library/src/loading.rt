@@ -1,9 +1,10 @@
 //! The manifests that rows need are loaded.
-ghost use Rattle.std.specs.Prelude.{◌≡◌, ◌⊎◌, ◌≤◌, None, Some, IfOk, IfErr, IsErrOf};
+ghost use Rattle.std.specs.Prelude.{◌≡◌, ℕ, List, Err, OnOk, IfOk, IsErrOf};
 ghost use Rattle.std.specs.Option.{ForSome};
 ghost use Rattle.cm_base.specs.Causes.{Rose};
-ghost use Rattle.cm_disk.specs.Disk.{LeavesNoMore};
-ghost use Rattle.cm_library.specs.Loads.{TakesOne, TakesAll, TakesJobs, Loads};
+ghost use Rattle.cm_log.specs.Frames.{OnlyReads};
+ghost use Rattle.cm_state.specs.Look.{held_or_place, all_held, all_jobs, loaded};
+ghost use Rattle.cm_library.specs.Loads.{Takes, TakesAll, TakesJobs, Loads};
 
 use crate::manifests::load;
 use cm_base::JobId;
@@ -14,100 +15,92 @@ use cm_state::OpenFault;
 use std::alloc::Global;
 use std::collections::BTreeMap;
 
-// Loads the manifest of a row. False where it is refused.
+// Loads the manifest of a row.
 fn load_one<D: Disk>(
     alloc: Global,
     disk: &mut D,
     row: &PkgRow,
     manifests: &mut Manifests,
-) -> Result<bool, OpenFault>
-    ensures kept { IfOk result (λ there. ForSome (D.reads disk.old) (λ files. TakesOne files row.now there manifests.old manifests.new)) }
-    ensures fault { IfErr result (λ fault. (fault ≡ OpenFault.Memory) ⊎ (fault ≡ OpenFault.Disk)) }
-    ensures same { D.reads disk.new ≡ D.reads disk.old }
-    ensures stop { LeavesNoMore (D.may_leave disk.old) (D.may_leave disk.new) }
-    ensures later { D.faults disk.old ≤ D.faults disk.new }
+) -> Result<(), OpenFault>
+    ensures kept { OnOk result (ForSome (D.reads disk.old) (λ files. Takes files (D.may_leave disk.new) row.now manifests.old manifests.new)) }
+    ensures unreadable { (place : List ℕ) (at : ℕ) → IsErrOf result (OpenFault.Unreadable place at) → ForSome (D.reads disk.old) (λ files. (held_or_place files row.now ≡ Err place) × (at ≡ 0)) }
+    ensures library { IsErrOf result OpenFault.NoLibrary → ⊥ }
+    ensures only { OnlyReads D.reads D.may_leave D.moment D.left_since D.faults disk.old disk.new }
     ensures cause { IsErrOf result OpenFault.Disk → Rose (D.faults disk.old) (D.faults disk.new) }
 {
     match load(alloc, disk, row) {
-        Ok(Some(manifest)) => match manifests.insert((row.package, row.version), manifest) {
-            Ok(_) => Ok(true),
+        Ok(manifest) => match manifests.insert((row.package, row.version), manifest) {
+            Ok(_) => Ok(()),
             Err(_) => Err(OpenFault::Memory),
         },
-        Ok(None) => Ok(false),
         Err(fault) => Err(fault),
     }
 }
 
-// Loads the manifests of versions. False where one is refused.
+// Loads the manifests of versions, up to the first that is wrong.
 fn load_versions<D: Disk>(
     alloc: Global,
     disk: &mut D,
     rows: &[PkgRow],
     manifests: &mut Manifests,
-) -> Result<bool, OpenFault>
-    ensures kept { IfOk result (λ there. ForSome (D.reads disk.old) (λ files. TakesAll files rows.now there manifests.old manifests.new)) }
-    ensures fault { IfErr result (λ fault. (fault ≡ OpenFault.Memory) ⊎ (fault ≡ OpenFault.Disk)) }
-    ensures same { D.reads disk.new ≡ D.reads disk.old }
-    ensures stop { LeavesNoMore (D.may_leave disk.old) (D.may_leave disk.new) }
-    ensures later { D.faults disk.old ≤ D.faults disk.new }
+) -> Result<(), OpenFault>
+    ensures kept { OnOk result (ForSome (D.reads disk.old) (λ files. TakesAll files (D.may_leave disk.new) rows.now manifests.old manifests.new)) }
+    ensures unreadable { (place : List ℕ) (at : ℕ) → IsErrOf result (OpenFault.Unreadable place at) → ForSome (D.reads disk.old) (λ files. (all_held files rows.now ≡ Err place) × (at ≡ 0)) }
+    ensures library { IsErrOf result OpenFault.NoLibrary → ⊥ }
+    ensures only { OnlyReads D.reads D.may_leave D.moment D.left_since D.faults disk.old disk.new }
     ensures cause { IsErrOf result OpenFault.Disk → Rose (D.faults disk.old) (D.faults disk.new) }
 {
     for row in rows {
         match load_one(alloc, disk, row, manifests) {
-            Ok(true) => {}
-            Ok(false) => return Ok(false),
+            Ok(()) => {}
             Err(fault) => return Err(fault),
         }
     }
-    Ok(true)
+    Ok(())
 }
 
-// Loads the manifests of unfinished jobs. False where one is refused.
+// Loads the manifests of unfinished jobs, up to the first that is wrong.
 fn load_jobs<D: Disk>(
     alloc: Global,
     disk: &mut D,
     jobs: &[(JobId, PkgRow)],
     manifests: &mut Manifests,
-) -> Result<bool, OpenFault>
-    ensures kept { IfOk result (λ there. ForSome (D.reads disk.old) (λ files. TakesJobs files jobs.now there manifests.old manifests.new)) }
-    ensures fault { IfErr result (λ fault. (fault ≡ OpenFault.Memory) ⊎ (fault ≡ OpenFault.Disk)) }
-    ensures same { D.reads disk.new ≡ D.reads disk.old }
-    ensures stop { LeavesNoMore (D.may_leave disk.old) (D.may_leave disk.new) }
-    ensures later { D.faults disk.old ≤ D.faults disk.new }
+) -> Result<(), OpenFault>
+    ensures kept { OnOk result (ForSome (D.reads disk.old) (λ files. TakesJobs files (D.may_leave disk.new) jobs.now manifests.old manifests.new)) }
+    ensures unreadable { (place : List ℕ) (at : ℕ) → IsErrOf result (OpenFault.Unreadable place at) → ForSome (D.reads disk.old) (λ files. (all_jobs files jobs.now ≡ Err place) × (at ≡ 0)) }
+    ensures library { IsErrOf result OpenFault.NoLibrary → ⊥ }
+    ensures only { OnlyReads D.reads D.may_leave D.moment D.left_since D.faults disk.old disk.new }
     ensures cause { IsErrOf result OpenFault.Disk → Rose (D.faults disk.old) (D.faults disk.new) }
 {
     for job in jobs {
         match load_one(alloc, disk, &job.1, manifests) {
-            Ok(true) => {}
-            Ok(false) => return Ok(false),
+            Ok(()) => {}
             Err(fault) => return Err(fault),
         }
     }
-    Ok(true)
+    Ok(())
 }
 
-/// The stored manifests of all rows. None where one is refused.
+/// The stored manifests of all rows, each durable before it is looked at. `Unreadable` names the place of the first that is
+/// absent or not what its row says, versions before jobs, at 0.
 pub(crate) fn load_all<D: Disk>(
     alloc: Global,
     disk: &mut D,
     rows: &Rows,
-) -> Result<Option<Manifests>, OpenFault>
-    ensures loads { IfOk result (λ found. ForSome (D.reads disk.old) (λ files. Loads files rows.now.rows found)) }
-    ensures fault { IfErr result (λ fault. (fault ≡ OpenFault.Memory) ⊎ (fault ≡ OpenFault.Disk)) }
-    ensures same { D.reads disk.new ≡ D.reads disk.old }
-    ensures stop { LeavesNoMore (D.may_leave disk.old) (D.may_leave disk.new) }
-    ensures later { D.faults disk.old ≤ D.faults disk.new }
+) -> Result<Manifests, OpenFault>
+    ensures loads { IfOk result (λ found. ForSome (D.reads disk.old) (λ files. Loads files (D.may_leave disk.new) rows.now.rows found)) }
+    ensures unreadable { (place : List ℕ) (at : ℕ) → IsErrOf result (OpenFault.Unreadable place at) → ForSome (D.reads disk.old) (λ files. (loaded files rows.now.rows ≡ Err place) × (at ≡ 0)) }
+    ensures library { IsErrOf result OpenFault.NoLibrary → ⊥ }
+    ensures only { OnlyReads D.reads D.may_leave D.moment D.left_since D.faults disk.old disk.new }
     ensures cause { IsErrOf result OpenFault.Disk → Rose (D.faults disk.old) (D.faults disk.new) }
 {
     let mut manifests = BTreeMap::new(alloc);
     match load_versions(alloc, disk, rows.versions(), &mut manifests) {
-        Ok(true) => {}
-        Ok(false) => return Ok(None),
+        Ok(()) => {}
         Err(fault) => return Err(fault),
     }
     match load_jobs(alloc, disk, rows.jobs(), &mut manifests) {
-        Ok(true) => Ok(Some(manifests)),
-        Ok(false) => Ok(None),
+        Ok(()) => Ok(manifests),
         Err(fault) => Err(fault),
     }
 }

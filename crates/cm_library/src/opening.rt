@@ -1,14 +1,17 @@
 //! A library is opened.
-ghost use Rattle.std.specs.Prelude.{◌≡◌, ◌≤◌, ℕ, List, IfOk, IfErr, IsErrOf};
+ghost use Rattle.std.specs.Prelude.{◌≡◌, ◌≤◌, ℕ, List, IfOk, IfErr, MatchResult, IsErrOf};
 ghost use Rattle.std.specs.Option.{ForSome};
 ghost use Rattle.cm_base.specs.Causes.{Rose};
+ghost use Rattle.cm_disk.specs.Disk.{IsImage, LeavesOnly};
+ghost use Rattle.cm_log.specs.Frames.{OnlyReads};
 ghost use Rattle.cm_state.specs.Look.{Missing, Unreadable, look, gate_in, has_room};
-ghost use Rattle.cm_library.specs.Open.{disk_of, end_of, IsOpen};
+ghost use Rattle.cm_state.specs.Sure.{AreManifestsSure};
+ghost use Rattle.cm_library.specs.Open.{disk_of, state_of, end_of, IsOpen};
 ghost use Rattle.cm_state.specs.Standing.{StandsIn, IsReady};
 
 use crate::library::Library;
 use crate::loading::load_all;
-use crate::records::{of_log, read_rows, unreadable};
+use crate::records::{of_log, read_rows};
 use cm_contents::Contents;
 use cm_disk::Disk;
 use cm_log::{Log, LogReader, Shelf};
@@ -32,27 +35,29 @@ fn leaves_room(end: u64, rows: &Rows) -> bool
 fn read_library<D: Disk>(alloc: Global, disk: &mut D) -> Result<(Log, Contents), OpenFault>
     ensures ready { IfOk result (λ found. IsReady found.0 found.1) }
     ensures stands { IfOk result (λ found. ForSome (D.reads disk.new) (λ files. StandsIn files (D.may_leave disk.new) found.0 found.1)) }
+    // A crash preserves the stored manifests.
+    ensures manifests { IfOk result (λ found. ForSome (D.reads disk.new) (λ _. AreManifestsSure (D.may_leave disk.new) found.1)) }
     ensures missing { IsErrOf result OpenFault.NoLibrary → ForSome (D.reads disk.old) (λ files. look files ≡ Missing) }
     ensures unreadable { (place : List ℕ) (at : ℕ) → IsErrOf result (OpenFault.Unreadable place at) → ForSome (D.reads disk.old) (λ files. look files ≡ Unreadable place at) }
-    ensures same { D.reads disk.new ≡ D.reads disk.old }
-    ensures later { D.faults disk.old ≤ D.faults disk.new }
+    ensures only { OnlyReads D.reads D.may_leave D.moment D.left_since D.faults disk.old disk.new }
     ensures cause { IsErrOf result OpenFault.Disk → Rose (D.faults disk.old) (D.faults disk.new) }
 {
     let mut reader = match LogReader::open(disk, Shelf::PkgLib) {
         Ok(reader) => reader,
         Err(fault) => return Err(of_log(fault)),
     };
+    let place = reader.place();
     let rows = match read_rows(alloc, disk, &mut reader) {
         Ok(rows) => rows,
         Err(fault) => return Err(fault),
     };
     let log = reader.done();
-    if !leaves_room(log.end(), &rows) {
-        return Err(unreadable());
+    let end = log.end();
+    if !leaves_room(end, &rows) {
+        return Err(OpenFault::Unreadable { place, at: end });
     }
     let manifests = match load_all(alloc, disk, &rows) {
-        Ok(Some(manifests)) => manifests,
-        Ok(None) => return Err(unreadable()),
+        Ok(manifests) => manifests,
         Err(fault) => return Err(fault),
     };
     match Contents::of(alloc, rows, manifests) {
@@ -69,6 +74,10 @@ impl<D: Disk> Library<D> {
         ensures missing { IfErr result (λ refused. refused.1 ≡ OpenFault.NoLibrary → ForSome (D.reads disk) (λ files. look files ≡ Missing)) }
         ensures unreadable { IfErr result (λ refused. (place : List ℕ) (at : ℕ) → refused.1 ≡ OpenFault.Unreadable place at → ForSome (D.reads disk) (λ files. look files ≡ Unreadable place at)) }
         ensures cause { IfErr result (λ refused. refused.1 ≡ OpenFault.Disk → Rose (D.faults disk) (D.faults refused.0)) }
+        // A crash preserves the manifests that the state needs. While the library is opened, and after a fault, it leaves what it
+        // might have left before.
+        ensures manifests { IfOk result (λ library. ForSome (D.reads (disk_of library)) (λ _. AreManifestsSure (D.may_leave (disk_of library)) (state_of library))) }
+        ensures any_moment { MatchResult result (λ library. LeavesOnly D.moment D.left_since disk (disk_of library) (IsImage (D.may_leave disk))) (λ refused. LeavesOnly D.moment D.left_since disk refused.0 (IsImage (D.may_leave disk))) }
         // The log ends where it ends on the disk.
         ensures gate { IfOk result (λ library. ForSome (D.reads disk) (λ files. gate_in files ≡ end_of library)) }
         // The disk reads as before, and is given back after a fault.

@@ -2,36 +2,18 @@
 ghost use Rattle.std.specs.Prelude.{◌≡◌, ◌≤◌, ℕ, List, true, false, Some, None, Ok, IfOk, IfErr, OnOk, IsErrOf};
 ghost use Rattle.std.specs.Option.{ForSome};
 ghost use Rattle.cm_base.specs.Causes.{Rose};
-ghost use Rattle.cm_disk.specs.Disk.{LeavesNoMore};
-ghost use Rattle.cm_log.specs.declared.shelf.Shelf.TheVariants.{PkgLib};
-ghost use Rattle.cm_log.specs.declared.shelf.Side.TheVariants.{First};
-ghost use Rattle.cm_log.specs.Shelves.{log_place};
+ghost use Rattle.cm_log.specs.Frames.{OnlyReads};
 ghost use Rattle.cm_log.specs.Settled.{reader_shelf, reader_place, has_ended, rest_of, IsReading};
 ghost use Rattle.cm_pkglib.specs.Rows.{no_rows, fault_of, after};
 ghost use Rattle.cm_state.specs.Sound.{AreFit, NamesVersion};
-ghost use Rattle.cm_state.specs.Look.{Unreadable, known, library_from};
+ghost use Rattle.cm_state.specs.Look.{Unreadable, rows_after_body, library_from};
 ghost use Rattle.cm_state.specs.Faults.{of_log_fault};
-ghost use Rattle.cm_state.specs.Replay.{rows_after_body};
 
-use cm_base::Place;
 use cm_disk::Disk;
 use cm_log::{LogFault, LogReader};
 use cm_pkglib::{Change, Rows};
 use cm_state::OpenFault;
 use std::alloc::Global;
-
-// Whether a library's log has records of this kind.
-fn is_known(change: &Change) -> bool
-    ensures yes { result ≡ true → known change.now ≡ Some change.now }
-    ensures no { result ≡ false → known change.now ≡ None }
-{
-    match change {
-        Change::Opened { .. } => true,
-        Change::Done { .. } => true,
-        Change::Dropped { .. } => false,
-        Change::Removed { .. } => false,
-    }
-}
 
 // Makes a change that the rows take.
 fn apply_change(rows: &mut Rows, change: &Change) -> Result<(), OpenFault>
@@ -62,25 +44,12 @@ fn take_body(rows: &mut Rows, body: &[u8]) -> Result<bool, OpenFault>
         Some(change) => change,
         None => return Ok(false),
     };
-    if !is_known(&change) {
-        return Ok(false);
-    }
     match rows.check(&change) {
         Ok(()) => {}
         Err(_) => return Ok(false),
     }
     apply_change(rows, &change)?;
     Ok(true)
-}
-
-/// What stands for a record that is refused, for a log without room, and for a stored manifest that is wrong.
-pub(crate) fn unreadable() -> OpenFault
-    ensures { result ≡ OpenFault.Unreadable (log_place PkgLib First) 0 }
-{
-    match Place::read(b"PkgLib/log.0") {
-        Some(place) => OpenFault::Unreadable { place, at: 0 },
-        None => unreachable!(),
-    }
 }
 
 /// Why a library is not opened whose log is not read.
@@ -105,21 +74,21 @@ fn take_record<D: Disk>(
     requires fit { AreFit rows.old.rows }
     ensures reading { ForSome (D.reads disk.new) (λ files. IsReading files (D.may_leave disk.new) reader.new) }
     ensures fit { AreFit rows.new.rows }
-    ensures goes_on { OnOk result (ForSome (D.reads disk.old) (λ files. library_from files (reader_place reader.old) (Some rows.old.rows) (rest_of files reader.old) ≡ library_from files (reader_place reader.old) (Some rows.new.rows) (rest_of files reader.new))) }
+    ensures goes_on { OnOk result (ForSome (D.reads disk.old) (λ files. library_from files (reader_place reader.old) (Ok rows.old.rows) (rest_of files reader.old) ≡ library_from files (reader_place reader.old) (Ok rows.new.rows) (rest_of files reader.new))) }
     ensures ended { result ≡ Ok false → has_ended reader.new ≡ true }
-    ensures unreadable { (place : List ℕ) (at : ℕ) → IsErrOf result (OpenFault.Unreadable place at) → ForSome (D.reads disk.old) (λ files. library_from files (reader_place reader.old) (Some rows.old.rows) (rest_of files reader.old) ≡ Unreadable place at) }
+    ensures unreadable { (place : List ℕ) (at : ℕ) → IsErrOf result (OpenFault.Unreadable place at) → ForSome (D.reads disk.old) (λ files. library_from files (reader_place reader.old) (Ok rows.old.rows) (rest_of files reader.old) ≡ Unreadable place at) }
     ensures library { IsErrOf result OpenFault.NoLibrary → ⊥ }
     ensures shelf { reader_shelf reader.new ≡ reader_shelf reader.old }
     ensures place { reader_place reader.new ≡ reader_place reader.old }
-    ensures same { D.reads disk.new ≡ D.reads disk.old }
-    ensures stop { LeavesNoMore (D.may_leave disk.old) (D.may_leave disk.new) }
-    ensures later { D.faults disk.old ≤ D.faults disk.new }
+    ensures only { OnlyReads D.reads D.may_leave D.moment D.left_since D.faults disk.old disk.new }
     ensures cause { IsErrOf result OpenFault.Disk → Rose (D.faults disk.old) (D.faults disk.new) }
 {
+    let place = reader.place();
+    let gate = reader.at();
     match reader.next(disk, buf) {
         Ok(Some(count)) => match take_body(rows, &buf[..count]) {
             Ok(true) => Ok(true),
-            Ok(false) => Err(unreadable()),
+            Ok(false) => Err(OpenFault::Unreadable { place, at: gate }),
             Err(_) => Err(OpenFault::Memory),
         },
         Ok(None) => Ok(false),
@@ -137,15 +106,13 @@ pub(crate) fn read_rows<D: Disk>(
     requires { ForSome (D.reads disk.old) (λ files. IsReading files (D.may_leave disk.old) reader.old) }
     ensures reading { ForSome (D.reads disk.new) (λ files. IsReading files (D.may_leave disk.new) reader.new) }
     ensures fit { IfOk result (λ rows. AreFit rows.rows) }
-    ensures rows { IfOk result (λ rows. ForSome (D.reads disk.old) (λ files. library_from files (reader_place reader.old) (Some no_rows) (rest_of files reader.old) ≡ library_from files (reader_place reader.old) (Some rows.rows) (rest_of files reader.new))) }
+    ensures rows { IfOk result (λ rows. ForSome (D.reads disk.old) (λ files. library_from files (reader_place reader.old) (Ok no_rows) (rest_of files reader.old) ≡ library_from files (reader_place reader.old) (Ok rows.rows) (rest_of files reader.new))) }
     ensures ended { OnOk result (has_ended reader.new ≡ true) }
-    ensures unreadable { (place : List ℕ) (at : ℕ) → IsErrOf result (OpenFault.Unreadable place at) → ForSome (D.reads disk.old) (λ files. library_from files (reader_place reader.old) (Some no_rows) (rest_of files reader.old) ≡ Unreadable place at) }
+    ensures unreadable { (place : List ℕ) (at : ℕ) → IsErrOf result (OpenFault.Unreadable place at) → ForSome (D.reads disk.old) (λ files. library_from files (reader_place reader.old) (Ok no_rows) (rest_of files reader.old) ≡ Unreadable place at) }
     ensures library { IsErrOf result OpenFault.NoLibrary → ⊥ }
     ensures shelf { reader_shelf reader.new ≡ reader_shelf reader.old }
     ensures place { reader_place reader.new ≡ reader_place reader.old }
-    ensures same { D.reads disk.new ≡ D.reads disk.old }
-    ensures stop { LeavesNoMore (D.may_leave disk.old) (D.may_leave disk.new) }
-    ensures later { D.faults disk.old ≤ D.faults disk.new }
+    ensures only { OnlyReads D.reads D.may_leave D.moment D.left_since D.faults disk.old disk.new }
     ensures cause { IsErrOf result OpenFault.Disk → Rose (D.faults disk.old) (D.faults disk.new) }
 {
     let mut rows = Rows::new(alloc);

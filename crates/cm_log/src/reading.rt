@@ -12,9 +12,17 @@ use crate::faults::LogFault;
 use crate::position::LogReader;
 use crate::prefix::{Prefix, read_prefix};
 use crate::state::Log;
+use cm_base::Place;
 use cm_disk::Disk;
 
 impl LogReader {
+    /// The place of the log's file.
+    pub fn place(&self) -> Place
+        ensures { result ≡ reader_place self.now }
+    {
+        self.place
+    }
+
     /// The place of the gate of the record that comes next.
     pub fn at(&self) -> u64
         ensures { result ≡ reader_at self.now }

@@ -45,7 +45,7 @@ abbrev pub opening : ℕ → List ℕ → ℕ → List Entry → Change
 opening job id version manifest = OpenedChange job id version (length manifest) (length (spelling manifest)) (record { 0 = sha256 (spelling manifest) })
 
 -- other versions have other places
-other_place : (id : List ℕ) (version : ℕ) (row : PkgRow) → length id ≡ 8 → version < 2 ^ 32 → IsNamed row → is_of id version row ≡ false → manifest_place row.package row.version ≢ manifest_place id version
+pub other_place : (id : List ℕ) (version : ℕ) (row : PkgRow) → length id ≡ 8 → version < 2 ^ 32 → IsNamed row → is_of id version row ≡ false → manifest_place row.package row.version ≢ manifest_place id version
 other_place id version row long below named other same =
     let n = manifest_names row.package row.version id version named.0 long (omega (arith, named.1)) (omega arith) same in
     let b : bytes_eq row.package id ≡ true = (bytes_eq-Decides row.package id).1 n.0 in
@@ -64,11 +64,11 @@ kept_jobs files now P agree [] all held = tt
 kept_jobs files now P agree (j ∷ js) all held = (same_manifest files now j.1.row (agree j.1.row all.0) ∙ held.0, kept_jobs files now P agree js all.1 held.1)
 
 -- two facts of each row
-both_versions : (P Q : PkgRow → Type 0) (hs : List Held) → AllByRecursion P (map row_of hs) → AllByRecursion Q (map row_of hs) → AllByRecursion (λ (h : Held). P h.row × Q h.row) hs
+pub both_versions : (P Q : PkgRow → Type 0) (hs : List Held) → AllByRecursion P (map row_of hs) → AllByRecursion Q (map row_of hs) → AllByRecursion (λ (h : Held). P h.row × Q h.row) hs
 both_versions P Q [] p q = tt
 both_versions P Q (h ∷ hs) p q = ((p.0, q.0), both_versions P Q hs p.1 q.1)
 
-both_jobs : (P Q : PkgRow → Type 0) (js : List (ℕ × Held)) → AllByRecursion (λ (u : ℕ × PkgRow). P u.1) (map job_of js) → AllByRecursion (λ (u : ℕ × PkgRow). Q u.1) (map job_of js) → AllByRecursion (λ (j : ℕ × Held). P j.1.row × Q j.1.row) js
+pub both_jobs : (P Q : PkgRow → Type 0) (js : List (ℕ × Held)) → AllByRecursion (λ (u : ℕ × PkgRow). P u.1) (map job_of js) → AllByRecursion (λ (u : ℕ × PkgRow). Q u.1) (map job_of js) → AllByRecursion (λ (j : ℕ × Held). P j.1.row × Q j.1.row) js
 both_jobs P Q [] p q = tt
 both_jobs P Q (j ∷ js) p q = ((p.0, q.0), both_jobs P Q js p.1 q.1)
 
@@ -105,7 +105,7 @@ begun_stands files now old new log log' s job id version manifest shelf st named
     let Both : PkgRow → Type 0 = λ row. IsNamed row × (is_of id version row ≡ false) in
     record_stands mid now old new log log' s (changed (Begun job id version manifest) s) (opening job id version manifest) shelf mid_settled settled' adds
     (λ (entries : List Record) l. (grounds_of files (place_of log) entries (end_of log) s (sym same_log ∙ l) st.stands).rows)
-    form refl free (rows_begun s job id version manifest) room
+    form free (rows_begun s job id version manifest) room
     (kept_versions files now Both agree s.versions (both_versions IsNamed (λ (row : PkgRow). is_of id version row ≡ false) s.versions named.versions (none_of_any (is_of id version) (rows_of s).versions may.no_version)) g.versions)
     (All-append (HasJob now) s.jobs ((job, held_of id version manifest) ∷ [])
     (kept_jobs files now Both agree s.jobs (both_jobs IsNamed (λ (row : PkgRow). is_of id version row ≡ false) s.jobs named.jobs
@@ -126,7 +126,7 @@ finished_stands files now old new log log' s job shelf st settled' adds form fre
     let jobs = kept_jobs files now (λ row. Unit {0}) agree s.jobs (any_jobs s.jobs) g.jobs in
     record_stands files now old new log log' s (changed (Finished job) s) (Done job) shelf st.settled settled' adds
     (λ (entries : List Record) l. (grounds_of files (place_of log) entries (end_of log) s l st.stands).rows)
-    form refl free (rows_finished s job) room (finished_versions now s job versions jobs) (finished_jobs now s job jobs)
+    form free (rows_finished s job) room (finished_versions now s job versions jobs) (finished_jobs now s job jobs)
 
 -- the room that is left
 

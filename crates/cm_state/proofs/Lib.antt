@@ -1,6 +1,7 @@
 pub mod Begun
 pub mod Digests
 pub mod Elsewhere
+pub mod ImagesOpen
 pub mod Lists
 pub mod Loaded
 pub mod Looks
@@ -15,6 +16,8 @@ pub mod Soundness
 pub mod Sounds
 pub mod Standing
 pub mod Steps
+pub mod Storing
 pub mod TreeLaw
 pub mod Unopened
+pub mod WholeAtOpening
 pub mod WholeTrees

@@ -1,6 +1,6 @@
 -- The stored manifests of rows.
 use Rattle.std.proofs.Common.{◌≡◌, ℕ, Bool, true, false, List, [], ◌∷◌, length, refl, sym, ◌∙◌, ap, subst, eq-eqb}
-use Rattle.std.specs.Prelude.{Option, None, Some, option_map, map, find, not, cond, Result, ◌==◌, ◌&&◌}
+use Rattle.std.specs.Prelude.{Option, None, Some, option_map, ok_or, map, find, not, cond, Result, Ok, Err, ◌==◌, ◌&&◌}
 use Rattle.std.specs.Option.{option_and_then}
 use Rattle.std.specs.List.{AllByRecursion}
 use Rattle.std.specs.Str.{bytes_eq}
@@ -20,7 +20,7 @@ use Rattle.cm_tree.proofs.Entries.{read_again}
 use Rattle.cm_datalib.specs.Places.{manifest_place}
 use Rattle.cm_state.specs.State.{Held, State, held_of, rows_of, with_held, with_done as with_held_done}
 use Rattle.cm_state.specs.Changes.{Begun, Finished, changed}
-use Rattle.cm_state.specs.Look.{counted, manifest_in, held, both, all_held, all_jobs, state_of, loaded}
+use Rattle.cm_state.specs.Look.{counted, manifest_in, held, held_or_place, both, of_job, all_held, all_jobs, state_of, loaded}
 use Rattle.cm_state.proofs.Lists.{over_cond, find_map, filter_map, all_filter, found_one}
 
 -- this is what the files have for its row
@@ -41,18 +41,27 @@ row_of h = h.row
 pub rows_same : (a b : Rows) → a.versions ≡ b.versions → a.jobs ≡ b.jobs → a.next ≡ b.next → a.lasts ≡ b.lasts → a ≡ b
 rows_same a b v j n l = λ i. record { versions = v i; jobs = j i; next = n i; lasts = l i }
 
+-- two values of one answer
+same_Ok : {A : Type 0} (x y : A) → (let r : Result A (List ℕ) = Ok x in r) ≡ Ok y → x ≡ y
+same_Ok x y e = cc
+
+-- a value that is there
+ok_some : {A : Type 0} (o : Option A) (place : List ℕ) (x : A) → ok_or o place ≡ Ok x → o ≡ Some x
+ok_some None place x is = absurd (cc)
+ok_some {A = A} (Some y) place x is = ap (λ (z : A). Some z) (same_Ok y x is)
+
 -- all of a list, by its parts
-pub record IsBoth {A : Type 0} (one : Option A) (rest : Option (List A)) (all : List A) : Type 0 where
+pub record IsBoth {A : Type 0} (one : Result A (List ℕ)) (rest : Result (List A) (List ℕ)) (all : List A) : Type 0 where
   pub first : A
   pub others : List A
-  pub one_is : one ≡ Some first
-  pub rest_is : rest ≡ Some others
+  pub one_is : one ≡ Ok first
+  pub rest_is : rest ≡ Ok others
   pub all_is : all ≡ first ∷ others
 
-both_some : {A : Type 0} (one : Option A) (rest : Option (List A)) (all : List A) → both one rest ≡ Some all → IsBoth one rest all
-both_some None rest all is = absurd (cc)
-both_some (Some x) None all is = absurd (cc)
-both_some (Some x) (Some xs) all is = record { first = x; others = xs; one_is = refl; rest_is = refl; all_is = sym (same_Some (x ∷ xs) all is) }
+both_ok : {A : Type 0} (one : Result A (List ℕ)) (rest : Result (List A) (List ℕ)) (all : List A) → both one rest ≡ Ok all → IsBoth one rest all
+both_ok (Err place) rest all is = absurd (cc)
+both_ok (Ok x) (Err place) all is = absurd (cc)
+both_ok (Ok x) (Ok xs) all is = record { first = x; others = xs; one_is = refl; rest_is = refl; all_is = sym (same_Ok (x ∷ xs) all is) }
 
 -- what is held has the row that it is held for
 held_row : (row : PkgRow) (found : Option (List Entry)) (h : Held) → option_map (λ (manifest : List Entry). let h : Held = record { row = row; manifest = manifest } in h) found ≡ Some h → h.row ≡ row
@@ -70,48 +79,57 @@ pub record Found (files : Files) (rows : List PkgRow) (hs : List Held) : Type 0 
   pub rows_are : map row_of hs ≡ rows
   pub each : AllByRecursion (HasHeld files) hs
 
-pub versions_found : (files : Files) (rows : List PkgRow) (hs : List Held) → all_held files rows ≡ Some hs → Found files rows hs
-versions_found files [] hs is = subst (Found files []) (same_Some [] hs is) (record { rows_are = refl; each = tt })
+pub versions_found : (files : Files) (rows : List PkgRow) (hs : List Held) → all_held files rows ≡ Ok hs → Found files rows hs
+versions_found files [] hs is = subst (Found files []) (same_Ok [] hs is) (record { rows_are = refl; each = tt })
 versions_found files (row ∷ rows) hs is =
-    let b = both_some (held files row) (all_held files rows) hs is in
+    let b = both_ok (held_or_place files row) (all_held files rows) hs is in
+    let one = ok_some (held files row) (manifest_place row.package row.version) b.first b.one_is in
     let f = versions_found files rows b.others b.rest_is in
     subst (Found files (row ∷ rows)) (sym b.all_is)
     (record {
-      rows_are = ap (λ (r : PkgRow). r ∷ map row_of b.others) (row_is files row b.first b.one_is) ∙ ap (λ (rs : List PkgRow). row ∷ rs) f.rows_are;
-      each = (is_held files row b.first b.one_is, f.each);
+      rows_are = ap (λ (r : PkgRow). r ∷ map row_of b.others) (row_is files row b.first one) ∙ ap (λ (rs : List PkgRow). row ∷ rs) f.rows_are;
+      each = (is_held files row b.first one, f.each);
     })
 
-pub versions_held : (files : Files) (hs : List Held) → AllByRecursion (HasHeld files) hs → all_held files (map row_of hs) ≡ Some hs
+-- what is held is no place of a wrong manifest
+pub no_place : (files : Files) (row : PkgRow) (h : Held) → held files row ≡ Some h → held_or_place files row ≡ Ok h
+no_place files row h is = ap (λ (o : Option Held). ok_or o (manifest_place row.package row.version)) is
+
+pub versions_held : (files : Files) (hs : List Held) → AllByRecursion (HasHeld files) hs → all_held files (map row_of hs) ≡ Ok hs
 versions_held files [] all = refl
 versions_held files (h ∷ hs) all =
-    ap (λ (o : Option Held). both o (all_held files (map row_of hs))) all.0 ∙ ap (λ (o : Option (List Held)). both (Some h) o) (versions_held files hs all.1)
+    ap (λ (o : Result Held (List ℕ)). both o (all_held files (map row_of hs))) (no_place files h.row h all.0)
+    ∙ ap (λ (o : Result (List Held) (List ℕ)). both (Ok h) o) (versions_held files hs all.1)
 
 -- a job that was found
-job_found : (n : ℕ) (o : Option Held) (job : ℕ × Held) → option_map (λ (h : Held). let j : ℕ × Held = (n, h) in j) o ≡ Some job → (o ≡ Some job.1) × (job.0 ≡ n)
-job_found n None job is = absurd (cc)
-job_found n (Some h) job is = (ap (λ (j : ℕ × Held). Some j.1) (same_Some (n, h) job is), ap (λ (j : ℕ × Held). j.0) (sym (same_Some (n, h) job is)))
+job_found : (n : ℕ) (o : Result Held (List ℕ)) (job : ℕ × Held) → of_job n o ≡ Ok job → (o ≡ Ok job.1) × (job.0 ≡ n)
+job_found n (Err place) job is = absurd (cc)
+job_found n (Ok h) job is =
+    let same : (n, h) ≡ job = same_Ok (n, h) job is in
+    (ap (λ (j : ℕ × Held). let r : Result Held (List ℕ) = Ok j.1 in r) same, ap (λ (j : ℕ × Held). j.0) (sym same))
 
 pub record FoundJobs (files : Files) (jobs : List (ℕ × PkgRow)) (js : List (ℕ × Held)) : Type 0 where
   pub rows_are : map job_of js ≡ jobs
   pub each : AllByRecursion (HasJob files) js
 
-pub jobs_found : (files : Files) (jobs : List (ℕ × PkgRow)) (js : List (ℕ × Held)) → all_jobs files jobs ≡ Some js → FoundJobs files jobs js
-jobs_found files [] js is = subst (FoundJobs files []) (same_Some [] js is) (record { rows_are = refl; each = tt })
+pub jobs_found : (files : Files) (jobs : List (ℕ × PkgRow)) (js : List (ℕ × Held)) → all_jobs files jobs ≡ Ok js → FoundJobs files jobs js
+jobs_found files [] js is = subst (FoundJobs files []) (same_Ok [] js is) (record { rows_are = refl; each = tt })
 jobs_found files (job ∷ jobs) js is =
-    let b = both_some (option_map (λ (h : Held). let j : ℕ × Held = (job.0, h) in j) (held files job.1)) (all_jobs files jobs) js is in
-    let j = job_found job.0 (held files job.1) b.first b.one_is in
+    let b = both_ok (of_job job.0 (held_or_place files job.1)) (all_jobs files jobs) js is in
+    let j = job_found job.0 (held_or_place files job.1) b.first b.one_is in
+    let one = ok_some (held files job.1) (manifest_place job.1.package job.1.version) b.first.1 j.0 in
     let f = jobs_found files jobs b.others b.rest_is in
     subst (FoundJobs files (job ∷ jobs)) (sym b.all_is)
     (record {
-      rows_are = ap (λ (n : ℕ). (n, b.first.1.row) ∷ map job_of b.others) j.1 ∙ ap (λ (r : PkgRow). (job.0, r) ∷ map job_of b.others) (row_is files job.1 b.first.1 j.0) ∙ ap (λ (rs : List (ℕ × PkgRow)). job ∷ rs) f.rows_are;
-      each = (is_held files job.1 b.first.1 j.0, f.each);
+      rows_are = ap (λ (n : ℕ). (n, b.first.1.row) ∷ map job_of b.others) j.1 ∙ ap (λ (r : PkgRow). (job.0, r) ∷ map job_of b.others) (row_is files job.1 b.first.1 one) ∙ ap (λ (rs : List (ℕ × PkgRow)). job ∷ rs) f.rows_are;
+      each = (is_held files job.1 b.first.1 one, f.each);
     })
 
-pub jobs_held : (files : Files) (js : List (ℕ × Held)) → AllByRecursion (HasJob files) js → all_jobs files (map job_of js) ≡ Some js
+pub jobs_held : (files : Files) (js : List (ℕ × Held)) → AllByRecursion (HasJob files) js → all_jobs files (map job_of js) ≡ Ok js
 jobs_held files [] all = refl
 jobs_held files (job ∷ jobs) all =
-    ap (λ (o : Option Held). both (option_map (λ (h : Held). let j : ℕ × Held = (job.0, h) in j) o) (all_jobs files (map job_of jobs))) all.0
-    ∙ ap (λ (o : Option (List (ℕ × Held))). both (Some job) o) (jobs_held files jobs all.1)
+    ap (λ (o : Result Held (List ℕ)). both (of_job job.0 o) (all_jobs files (map job_of jobs))) (no_place files job.1.row job.1 all.0)
+    ∙ ap (λ (o : Result (List (ℕ × Held)) (List ℕ)). both (Ok job) o) (jobs_held files jobs all.1)
 
 -- what is loaded
 pub record IsLoaded (files : Files) (rows : Rows) (s : State) : Type 0 where
@@ -119,22 +137,22 @@ pub record IsLoaded (files : Files) (rows : Rows) (s : State) : Type 0 where
   pub versions : AllByRecursion (HasHeld files) s.versions
   pub jobs : AllByRecursion (HasJob files) s.jobs
 
-loaded_parts : (files : Files) (rows : Rows) (vs : Option (List Held)) (js : Option (List (ℕ × Held))) (s : State) → all_held files rows.versions ≡ vs → all_jobs files rows.jobs ≡ js → state_of rows vs js ≡ Some s → IsLoaded files rows s
-loaded_parts files rows None js s v j is = absurd (cc)
-loaded_parts files rows (Some vs) None s v j is = absurd (cc)
-loaded_parts files rows (Some vs) (Some js) s v j is =
+loaded_parts : (files : Files) (rows : Rows) (vs : Result (List Held) (List ℕ)) (js : Result (List (ℕ × Held)) (List ℕ)) (s : State) → all_held files rows.versions ≡ vs → all_jobs files rows.jobs ≡ js → state_of rows vs js ≡ Ok s → IsLoaded files rows s
+loaded_parts files rows (Err place) js s v j is = absurd (cc)
+loaded_parts files rows (Ok vs) (Err place) s v j is = absurd (cc)
+loaded_parts files rows (Ok vs) (Ok js) s v j is =
     let f = versions_found files rows.versions vs v in
     let g = jobs_found files rows.jobs js j in
-    subst (IsLoaded files rows) (same_Some _ s is)
+    subst (IsLoaded files rows) (same_Ok _ s is)
     (record { rows_are = rows_same rows _ (sym f.rows_are) (sym g.rows_are) refl refl; versions = f.each; jobs = g.each })
 
-pub loaded_is : (files : Files) (rows : Rows) (s : State) → loaded files rows ≡ Some s → IsLoaded files rows s
+pub loaded_is : (files : Files) (rows : Rows) (s : State) → loaded files rows ≡ Ok s → IsLoaded files rows s
 loaded_is files rows s is = loaded_parts files rows (all_held files rows.versions) (all_jobs files rows.jobs) s refl refl is
 
-pub loaded_state : (files : Files) (s : State) → AllByRecursion (HasHeld files) s.versions → AllByRecursion (HasJob files) s.jobs → loaded files (rows_of s) ≡ Some s
+pub loaded_state : (files : Files) (s : State) → AllByRecursion (HasHeld files) s.versions → AllByRecursion (HasJob files) s.jobs → loaded files (rows_of s) ≡ Ok s
 loaded_state files s vs js =
-    ap (λ (o : Option (List Held)). state_of (rows_of s) o (all_jobs files (map job_of s.jobs))) (versions_held files s.versions vs)
-    ∙ ap (λ (o : Option (List (ℕ × Held))). state_of (rows_of s) (Some s.versions) o) (jobs_held files s.jobs js)
+    ap (λ (o : Result (List Held) (List ℕ)). state_of (rows_of s) o (all_jobs files (map job_of s.jobs))) (versions_held files s.versions vs)
+    ∙ ap (λ (o : Result (List (ℕ × Held)) (List ℕ)). state_of (rows_of s) (Ok s.versions) o) (jobs_held files s.jobs js)
 
 -- files that agree at a row's manifest
 pub same_manifest : (files now : Files) (row : PkgRow) → now (manifest_place row.package row.version) ≡ files (manifest_place row.package row.version) → held now row ≡ held files row

@@ -1,6 +1,6 @@
 -- A library stands in its files, before and after a call.
 use Rattle.std.proofs.Common.{◌≡◌, ℕ, ◌+◌, true, List, length, sym, ◌∙◌, ap, subst}
-use Rattle.std.specs.Prelude.{◌≢◌, None, Some}
+use Rattle.std.specs.Prelude.{◌≢◌, None, Some, Ok}
 use Rattle.std.specs.List.{AllByRecursion}
 use Rattle.cm_disk.specs.Disk.{File, Files, put}
 use Rattle.cm_disk.proofs.Puts.{put_there}
@@ -19,7 +19,7 @@ use Rattle.cm_pkglib.proofs.Records.{read_spelled}
 use Rattle.cm_filelib.specs.Places.{file_place}
 use Rattle.cm_datalib.specs.Places.{manifest_place}
 use Rattle.cm_state.specs.State.{State, rows_of}
-use Rattle.cm_state.specs.Look.{known, has_room, rows_from}
+use Rattle.cm_state.specs.Look.{has_room, rows_from}
 use Rattle.cm_state.specs.Standing.{StandsIn}
 use Rattle.cm_state.proofs.Elsewhere.{manifest_no_file, manifest_no_ready, manifest_no_log, file_no_ready, file_no_log}
 use Rattle.cm_state.proofs.Loaded.{HasHeld, HasJob}
@@ -84,18 +84,18 @@ live_at files log shelf e = ap (λ (s : Shelf). shelved s files) (sym shelf) ∙
 pub record_stands : (mid now : Files) (old new : List ℕ → File → Type 0) (log log' : Log) (before after_state : State) (change : Change)
     → shelf_of log ≡ PkgLib → IsSettled mid old log → IsSettled now new log'
     → Adds (shelf_of log) (place_of log) mid now (spelled change)
-    → ((entries : List Record) → shelved PkgLib mid ≡ Live (place_of log) (closed entries (end_of log)) → rows_from (Some no_rows) entries ≡ Some (rows_of before))
-    → IsChange change → known change ≡ Some change → fault_of (rows_of before) change ≡ None
+    → ((entries : List Record) → shelved PkgLib mid ≡ Live (place_of log) (closed entries (end_of log)) → rows_from (Ok no_rows) entries ≡ Ok (rows_of before))
+    → IsChange change → fault_of (rows_of before) change ≡ None
     → rows_of after_state ≡ after change (rows_of before)
     → has_room (end_of log + 5 + length (spelled change)) (rows_of after_state) ≡ true
     → AllByRecursion (HasHeld now) after_state.versions → AllByRecursion (HasJob now) after_state.jobs
     → StandsIn now new log' after_state
-record_stands mid now old new log log' before after_state change shelf settled settled' adds rows form is_known free are room versions jobs =
+record_stands mid now old new log log' before after_state change shelf settled settled' adds rows form free are room versions jobs =
     let live = live_at mid log shelf settled.ends in
     let more : shelved PkgLib now ≡ added (spelled change) (Live (place_of log) (closed settled.ends.entries (end_of log))) =
     ap (λ (s : Shelf). shelved s now) (sym shelf) ∙ adds.log ∙ ap (λ (s : Shelf). added (spelled change) (shelved s mid)) shelf ∙ ap (λ (x : Shelved). added (spelled change) x) live in
     record {
-      stands = record_more now (place_of log) settled.ends.entries (end_of log) before after_state (spelled change) change more (rows settled.ends.entries live) (read_spelled change form) is_known free are room versions jobs;
+      stands = record_more now (place_of log) settled.ends.entries (end_of log) before after_state (spelled change) change more (rows settled.ends.entries live) (read_spelled change form) free are room versions jobs;
       settled = settled';
     }
 

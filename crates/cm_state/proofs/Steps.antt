@@ -1,34 +1,33 @@
 -- One record after another, of a log that is read.
 use Rattle.std.proofs.Common.{◌≡◌, ℕ, true, List, [], ◌∷◌, sym, ◌∙◌, ap}
-use Rattle.std.specs.Prelude.{Option, None, Some}
+use Rattle.std.specs.Prelude.{Option, None, Some, ok_or, Result, Ok}
 use Rattle.cm_disk.specs.Disk.{Files}
 use Rattle.cm_log.specs.declared.shelf.Shelf.{Shelf}
 use Rattle.cm_log.specs.Logs.{Ending, Closed, Broken, Reading, Shelved, NoLog, Unread, Live, ended, following, shelved}
 use Rattle.cm_log.specs.declared.position.LogReader.{LogReader}
 use Rattle.cm_log.specs.Settled.{reader_shelf, reader_place, reader_at, has_ended, rest_of, IsReading}
 use Rattle.cm_pkglib.specs.Rows.{Rows}
-use Rattle.cm_state.specs.Look.{Unreadable, unreadable, rows_from, ended_or, library_from}
-use Rattle.cm_state.specs.Replay.{rows_after_body}
-use Rattle.cm_state.proofs.Replaying.{rows_none}
+use Rattle.cm_state.specs.Look.{Unreadable, rows_after_body, rows_from, ended_or, library_from}
+use Rattle.cm_state.proofs.Replaying.{rows_refused}
 
 -- a record that the rows take
 pub takes : (files : Files) (place : List ℕ) (rows next : Rows) (gate : ℕ) (body : List ℕ) (old rest : Reading) → old ≡ following (record { gate = gate; body = body } ∷ []) rest → rows_after_body body rows ≡ Some next
-    → library_from files place (Some rows) old ≡ library_from files place (Some next) rest
+    → library_from files place (Ok rows) old ≡ library_from files place (Ok next) rest
 takes files place rows next gate body old rest is step =
-    ap (λ (r : Reading). library_from files place (Some rows) r) is
-    ∙ ap (λ (o : Option Rows). ended_or files place rest.ending (rows_from o rest.entries)) step
+    ap (λ (r : Reading). library_from files place (Ok rows) r) is
+    ∙ ap (λ (o : Option Rows). ended_or files place rest.ending (rows_from (ok_or o gate) rest.entries)) step
 
 -- a record that they refuse
 pub refuses : (files : Files) (place : List ℕ) (rows : Rows) (gate : ℕ) (body : List ℕ) (old rest : Reading) → old ≡ following (record { gate = gate; body = body } ∷ []) rest → rows_after_body body rows ≡ None
-    → library_from files place (Some rows) old ≡ unreadable
+    → library_from files place (Ok rows) old ≡ Unreadable place gate
 refuses files place rows gate body old rest is step =
-    ap (λ (r : Reading). library_from files place (Some rows) r) is
-    ∙ ap (λ (o : Option Rows). ended_or files place rest.ending (rows_from o rest.entries)) step
-    ∙ ap (λ (o : Option Rows). ended_or files place rest.ending o) (rows_none rest.entries)
+    ap (λ (r : Reading). library_from files place (Ok rows) r) is
+    ∙ ap (λ (o : Option Rows). ended_or files place rest.ending (rows_from (ok_or o gate) rest.entries)) step
+    ∙ ap (λ (o : Result Rows ℕ). ended_or files place rest.ending o) (rows_refused gate rest.entries)
 
 -- a file that ends in the middle
-pub breaks : (files : Files) (place : List ℕ) (rows : Rows) (at : ℕ) (old : Reading) → old ≡ ended (Broken at) → library_from files place (Some rows) old ≡ Unreadable place at
-breaks files place rows at old is = ap (λ (r : Reading). library_from files place (Some rows) r) is
+pub breaks : (files : Files) (place : List ℕ) (rows : Rows) (at : ℕ) (old : Reading) → old ≡ ended (Broken at) → library_from files place (Ok rows) old ≡ Unreadable place at
+breaks files place rows at old is = ap (λ (r : Reading). library_from files place (Ok rows) r) is
 
 abbrev ending_at : Ending → ℕ
 ending_at (Closed end) = end

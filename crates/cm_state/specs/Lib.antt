@@ -1,12 +1,13 @@
 pub mod Adding
 pub mod Becomes
 pub mod Changes
+pub mod Commits
 pub mod Faults
 pub mod Look
 pub mod Needed
 pub mod Opens
-pub mod Replay
 pub mod Runs
+pub mod SmallLogs
 pub mod Sound
 pub mod Standing
 pub mod State

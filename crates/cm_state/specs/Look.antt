@@ -1,15 +1,11 @@
 -- What files are, as a function: no library, one in a state, or unreadable at a place.
-use Rattle.std.specs.Prelude.{ℕ, ◌+◌, ◌-◌, ◌*◌, ◌^◌, ◌==◌, ◌&&◌, nat_le, Bool, cond, List, [], ◌∷◌, length, Option, None, Some, option_map, Result, Ok, Err}
+use Rattle.std.specs.Prelude.{ℕ, ◌+◌, ◌-◌, ◌*◌, ◌^◌, ◌==◌, ◌&&◌, nat_le, Bool, true, false, cond, List, [], ◌∷◌, length, Option, None, Some, option_map, ok_or, Result, Ok, Err}
 use Rattle.std.specs.Option.{option_and_then}
 use Rattle.std.specs.Str.{bytes_eq}
 use Rattle.sha2.specs.Sha256.{sha256}
 use Rattle.cm_disk.specs.Disk.{Files}
 use Rattle.cm_log.specs.declared.shelf.Shelf.TheVariants.{PkgLib}
-use Rattle.cm_log.specs.declared.shelf.Side.TheVariants.{First}
-use Rattle.cm_log.specs.Shelves.{log_place}
 use Rattle.cm_log.specs.Logs.{Entry as Record, Ending, Closed, Broken, Reading, Shelved, NoLog, Unread, Live, shelved}
-use Rattle.cm_pkglib.specs.declared.change.Change.{Change}
-use Rattle.cm_pkglib.specs.declared.change.Change.TheVariants.{Opened as OpenedChange, Done, Dropped, Removed}
 use Rattle.cm_pkglib.specs.declared.row.PkgRow.{PkgRow}
 use Rattle.cm_pkglib.specs.Changes.{read_change}
 use Rattle.cm_pkglib.specs.Rows.{Rows, no_rows, step}
@@ -24,25 +20,23 @@ pub data Library : Type 0 where
   Opened : State → Library
   Unreadable : List ℕ → ℕ → Library
 
--- the kinds of record that a library's log has: a job is opened, and done
-abbrev pub known : Change → Option Change
-known (OpenedChange job id version entries size hash) = Some (OpenedChange job id version entries size hash)
-known (Done job) = Some (Done job)
-known (Dropped job) = None
-known (Removed id version) = None
+-- the rows after a record with this body, none where it is off the grammar or the rows refuse its change
+abbrev pub rows_after_body : List ℕ → Rows → Option Rows
+rows_after_body body rows = option_and_then (λ change. step change rows) (read_change body)
 
--- the change that a record says
-abbrev pub change_of : Record → Option Change
-change_of entry = option_and_then known (read_change entry.body)
+-- the rows after a record, or the place of its gate where it is refused
+abbrev pub rows_after : Record → Rows → Result Rows ℕ
+rows_after entry rows = ok_or (rows_after_body entry.body rows) entry.gate
 
--- the rows after a record, none where its body is off the grammar or the rows refuse it
-abbrev pub rows_after : Record → Rows → Option Rows
-rows_after entry rows = option_and_then (λ change. step change rows) (change_of entry)
+-- what follows from a value, or the error
+abbrev pub and_then : {A B E : Type 0} → (A → Result B E) → Result A E → Result B E
+and_then f (Ok x) = f x
+and_then f (Err e) = Err e
 
--- the rows after several records in their order
-abbrev pub rows_from : Option Rows → List Record → Option Rows
+-- the rows after several records in their order, or the place of the gate of the first that is refused
+abbrev pub rows_from : Result Rows ℕ → List Record → Result Rows ℕ
 rows_from rows [] = rows
-rows_from rows (entry ∷ entries) = rows_from (option_and_then (rows_after entry) rows) entries
+rows_from rows (entry ∷ entries) = rows_from (and_then (rows_after entry) rows) entries
 
 -- the closed gate leaves the room that each version's end and each job's end may want
 abbrev pub has_room : ℕ → Rows → Bool
@@ -60,54 +54,66 @@ manifest_in row bytes = cond (length bytes == row.size && bytes_eq (sha256 bytes
 abbrev pub held : Files → PkgRow → Option Held
 held files row = option_map (λ manifest. record { row = row; manifest = manifest }) (option_and_then (manifest_in row) (files (manifest_place row.package row.version)))
 
--- all of a list, or none where one is missing
-abbrev pub both : {A : Type 0} → Option A → Option (List A) → Option (List A)
-both None rest = None
-both (Some one) None = None
-both (Some one) (Some rest) = Some (one ∷ rest)
+-- the same, or the place of the manifest that is absent or not what its row says
+abbrev pub held_or_place : Files → PkgRow → Result Held (List ℕ)
+held_or_place files row = ok_or (held files row) (manifest_place row.package row.version)
 
-abbrev pub all_held : Files → List PkgRow → Option (List Held)
-all_held files [] = Some []
-all_held files (row ∷ rows) = both (held files row) (all_held files rows)
+-- all of a list, or the place of the first that is wrong
+abbrev pub both : {A : Type 0} → Result A (List ℕ) → Result (List A) (List ℕ) → Result (List A) (List ℕ)
+both (Err place) rest = Err place
+both (Ok one) (Err place) = Err place
+both (Ok one) (Ok rest) = Ok (one ∷ rest)
 
-abbrev pub all_jobs : Files → List (ℕ × PkgRow) → Option (List (ℕ × Held))
-all_jobs files [] = Some []
-all_jobs files (job ∷ jobs) = both (option_map (λ found. (job.0, found)) (held files job.1)) (all_jobs files jobs)
+-- the number of a job with what it holds
+abbrev pub of_job : ℕ → Result Held (List ℕ) → Result (ℕ × Held) (List ℕ)
+of_job job (Ok found) = Ok (job, found)
+of_job job (Err place) = Err place
 
-abbrev pub state_of : Rows → Option (List Held) → Option (List (ℕ × Held)) → Option State
-state_of rows (Some versions) (Some jobs) = Some (record { versions = versions; jobs = jobs; next = rows.next; lasts = rows.lasts })
-state_of rows (Some versions) None = None
-state_of rows None jobs = None
+abbrev pub all_held : Files → List PkgRow → Result (List Held) (List ℕ)
+all_held files [] = Ok []
+all_held files (row ∷ rows) = both (held_or_place files row) (all_held files rows)
 
--- the state of these rows with their stored manifests
-abbrev pub loaded : Files → Rows → Option State
+abbrev pub all_jobs : Files → List (ℕ × PkgRow) → Result (List (ℕ × Held)) (List ℕ)
+all_jobs files [] = Ok []
+all_jobs files (job ∷ jobs) = both (of_job job.0 (held_or_place files job.1)) (all_jobs files jobs)
+
+-- versions are looked at before jobs
+abbrev pub state_of : Rows → Result (List Held) (List ℕ) → Result (List (ℕ × Held)) (List ℕ) → Result State (List ℕ)
+state_of rows (Err place) jobs = Err place
+state_of rows (Ok versions) (Err place) = Err place
+state_of rows (Ok versions) (Ok jobs) = Ok (record { versions = versions; jobs = jobs; next = rows.next; lasts = rows.lasts })
+
+-- the state of these rows with their stored manifests, or the place of the first manifest that is wrong
+abbrev pub loaded : Files → Rows → Result State (List ℕ)
 loaded files rows = state_of rows (all_held files rows.versions) (all_jobs files rows.jobs)
 
--- the place that is named where a record is refused, the closed gate leaves no room, or a stored manifest is wrong
-abbrev pub unreadable : Library
-unreadable = Unreadable (log_place PkgLib First) 0
+abbrev pub opened_or : Result State (List ℕ) → Library
+opened_or (Ok state) = Opened state
+opened_or (Err place) = Unreadable place 0
 
-abbrev pub opened_or : Option State → Library
-opened_or (Some state) = Opened state
-opened_or None = unreadable
+-- at a closed gate there: unreadable at it, where it leaves no room
+abbrev pub closed_with : Bool → List ℕ → ℕ → Result State (List ℕ) → Library
+closed_with true place end found = opened_or found
+closed_with false place end found = Unreadable place end
 
--- the library of these rows where their records end: with the stored manifests at a closed gate that leaves room
+-- the library of these rows where their records end
 abbrev pub ended_with : Files → List ℕ → Ending → Rows → Library
-ended_with files place (Closed end) rows = opened_or (cond (has_room end rows) (loaded files rows) None)
+ended_with files place (Closed end) rows = closed_with (has_room end rows) place end (loaded files rows)
 ended_with files place (Broken at) rows = Unreadable place at
 
-abbrev pub ended_or : Files → List ℕ → Ending → Option Rows → Library
-ended_or files place ending None = unreadable
-ended_or files place ending (Some rows) = ended_with files place ending rows
+-- a record that is refused comes before the end
+abbrev pub ended_or : Files → List ℕ → Ending → Result Rows ℕ → Library
+ended_or files place ending (Err gate) = Unreadable place gate
+ended_or files place ending (Ok rows) = ended_with files place ending rows
 
--- the library that further records of the log at a place make of rows; a record that the rows refuse comes before the end
-abbrev pub library_from : Files → List ℕ → Option Rows → Reading → Library
+-- the library that further records of the log at a place make of rows
+abbrev pub library_from : Files → List ℕ → Result Rows ℕ → Reading → Library
 library_from files place rows reading = ended_or files place reading.ending (rows_from rows reading.entries)
 
 abbrev pub look_at : Files → Shelved → Library
 look_at files NoLog = Missing
 look_at files (Unread place at) = Unreadable place at
-look_at files (Live place reading) = library_from files place (Some no_rows) reading
+look_at files (Live place reading) = library_from files place (Ok no_rows) reading
 
 -- what these files are
 abbrev pub look : Files → Library

@@ -12,8 +12,9 @@ pub enum OpenFault {
     Disk,
     /// There is no library.
     NoLibrary,
-    /// What is there is no library, at this place from this byte on. A record that is off the grammar or refused, a log
-    /// without room for the ends of its jobs and versions, and a stored manifest that is wrong are named `PkgLib/log.0` at 0.
+    /// What is there is no library, at this place from this byte on: a log at the place where it is off its form, a record
+    /// that is off the grammar or refused by the rows at its gate, a log without room for the ends of its jobs and versions at
+    /// its closed gate, a stored manifest that is absent or not what its record names at 0.
     Unreadable { place: Place, at: u64 },
     /// There was no memory.
     Memory,

@@ -40,8 +40,12 @@ fn lists_a_job(rt: HostRuntime) -> Result<(), Fail> {
     lay(&mut disk, b"PkgLib/log.0", Some(&opened))?;
     let (status, text, mut disk) = ran(&rt, alloc, &["list", "site"], disk, &[])?;
     assert!(rt; status == 0 && text.as_slice() == b"PS100001 1 job 1 3 8\n".as_slice());
-    let (status, text, _) = ran(&rt, alloc, &["add", "PS100001"], disk, &[])?;
+    let (status, text, mut disk) = ran(&rt, alloc, &["add", "PS100001"], disk, &[])?;
     assert!(rt; status == 1 && text.as_slice() == b"refused 2 PackageThere 1\n".as_slice());
+    disk.remove(&Place::read(b"DataLib/PS100001.1").ok_or("a place")?)?;
+    let (status, text, _) = ran(&rt, alloc, &["list", "site"], disk, &[])?;
+    assert!(rt; status == 7);
+    assert!(rt; text.as_slice() == b"library site unreadable DataLib/PS100001.1 0\n".as_slice());
     Ok(())
 }
 

@@ -80,7 +80,7 @@ fn names_the_first_cause(rt: HostRuntime) -> Result<(), Fail> {
     let off = [1, 1, 1, 0, 0, 0, 0, 0, 0, 0, 1, 1, 0, 0, 0, 9, 1, 5];
     let (status, text) = listed(&rt, alloc, [Some(&[]), Some(&off), Some(IDLE)])?;
     assert!(rt; status == 7);
-    assert!(rt; text.as_slice() == b"library site unreadable PkgLib/log.0 0\n".as_slice());
+    assert!(rt; text.as_slice() == b"library site unreadable PkgLib/log.0 10\n".as_slice());
     let (status, text) = listed(&rt, alloc, [None, Some(&off), Some(IDLE)])?;
     assert!(rt; status == 7 && text.as_slice() == b"library site missing\n".as_slice());
     Ok(())

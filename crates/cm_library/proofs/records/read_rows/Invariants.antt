@@ -1,6 +1,6 @@
-use Rattle.std.proofs.Common.{◌≡◌, ◌≤◌, Some}
+use Rattle.std.proofs.Common.{◌≡◌, Ok}
 use Rattle.std.specs.Option.{ForSome}
-use Rattle.cm_disk.specs.Disk.{LeavesNoMore}
+use Rattle.cm_log.specs.Frames.{OnlyReads}
 use Rattle.cm_log.specs.Settled.{reader_shelf, reader_place, rest_of, IsReading}
 use Rattle.cm_pkglib.specs.Rows.{no_rows}
 use Rattle.cm_state.specs.Sound.{AreFit}
@@ -11,10 +11,8 @@ abbrev pub invariant-loop-record : goal.invariant-loop-record
 invariant-loop-record g l = record {
   reading : ForSome (g.D.Disk.reads l.disk) (λ files. IsReading files (g.D.Disk.may_leave l.disk) l.reader);
   fit : AreFit l.rows.rows;
-  goes_on : ForSome (g.D.Disk.reads l.fn.disk) (λ files. library_from files (reader_place l.fn.reader) (Some no_rows) (rest_of files l.fn.reader) ≡ library_from files (reader_place l.fn.reader) (Some l.rows.rows) (rest_of files l.reader));
+  goes_on : ForSome (g.D.Disk.reads l.fn.disk) (λ files. library_from files (reader_place l.fn.reader) (Ok no_rows) (rest_of files l.fn.reader) ≡ library_from files (reader_place l.fn.reader) (Ok l.rows.rows) (rest_of files l.reader));
   shelf : reader_shelf l.reader ≡ reader_shelf l.fn.reader;
   place : reader_place l.reader ≡ reader_place l.fn.reader;
-  same : g.D.Disk.reads l.disk ≡ g.D.Disk.reads l.fn.disk;
-  stop : LeavesNoMore (g.D.Disk.may_leave l.fn.disk) (g.D.Disk.may_leave l.disk);
-  later : g.D.Disk.faults l.fn.disk ≤ g.D.Disk.faults l.disk;
+  only : OnlyReads g.D.Disk.reads g.D.Disk.may_leave g.D.Disk.moment g.D.Disk.left_since g.D.Disk.faults l.fn.disk l.disk;
 }
