@@ -1,6 +1,7 @@
 //! The second pass: the names that refer to others.
 ghost use Rattle.std.specs.Prelude.{◌≡◌, ◌≤◌, length, map};
 ghost use Rattle.std.specs.List.{flat_map};
+ghost use Rattle.cm_groups.specs.Names.{is_among};
 ghost use Rattle.cm_topo.specs.Rules.{no_such_boundary, no_such_point};
 ghost use Rattle.cm_topo.specs.SecondPass.{AreFewGroups, AreFewServers, group_relations_refer, groups_refer, leads_to, missing, refers, relation_refers, relations_refer, servers_refer, source_refers};
 ghost use Rattle.cm_topo.specs.Troubles.{each_entry, fault_at, first};
@@ -48,12 +49,26 @@ fn part_fault<R: Refers>(known: &Known, part: u8, rows: &[R]) -> Option<Placed>
     None
 }
 
+/// Whether there is a label.
+fn has_label(names: &Names<Label>, name: &Label) -> bool
+    ensures { result ≡ is_among names.now name.now }
+{
+    names.has(name)
+}
+
+/// Whether there is a server of that name.
+fn has_server(names: &Names<ServerName>, name: &ServerName) -> bool
+    ensures { result ≡ is_among names.now name.now }
+{
+    names.has(name)
+}
+
 /// The first of the wanted boundaries that is not there.
 fn missing_boundary(boundaries: &Names<Label>, wanted: &[Label]) -> Option<Trouble>
     ensures { first (missing no_such_boundary boundaries.now wanted.now) ≡ result }
 {
     for name in wanted {
-        if !boundaries.has(name) {
+        if !has_label(boundaries, name) {
             return Some(Trouble::Broken(NO_SUCH_BOUNDARY));
         }
     }
@@ -65,7 +80,7 @@ fn missing_point(points: &Names<ServerName>, wanted: &[ServerName]) -> Option<Tr
     ensures { first (missing no_such_point points.now wanted.now) ≡ result }
 {
     for name in wanted {
-        if !points.has(name) {
+        if !has_server(points, name) {
             return Some(Trouble::Broken(NO_SUCH_POINT));
         }
     }
