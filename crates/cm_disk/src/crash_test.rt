@@ -1,4 +1,6 @@
 //! Crash tests: a run whose device calls fail, one after another, and what a crash then leaves.
+ghost use Rattle.std.specs.Prelude.{◌≡◌};
+
 use crate::{Disk, MemDisk};
 use cm_base::Memory;
 use std::alloc::Global;
@@ -18,7 +20,9 @@ pub enum CrashFault {
 }
 
 impl From<Memory> for CrashFault {
-    fn from(_: Memory) -> CrashFault {
+    fn from(_: Memory) -> CrashFault
+        ensures { result ≡ CrashFault.Memory }
+    {
         CrashFault::Memory
     }
 }
