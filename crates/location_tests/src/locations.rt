@@ -377,6 +377,14 @@ fn lyon_has_more_clients(rt: HostRuntime) -> Result<(), Fail> {
     look(&rt, rt.alloc(), &groups, &question, &wanted)
 }
 
+/// What is wanted at Paris by pc7, where no other group is asked for.
+const WITHOUT_PC7: [Wanted; 4] = [
+    (2, Kind::Point, "dp1"),
+    (4, Kind::Peer, "pc8"),
+    (5, Kind::Point, "dp2"),
+    (7, Kind::Point, "dp3"),
+];
+
 #[test]
 fn each_source_stands_once(rt: HostRuntime) -> Result<(), Fail> {
     // dp1 is in Paris and in Lyon, which is reached: its least rank counts
@@ -386,8 +394,7 @@ fn each_source_stands_once(rt: HostRuntime) -> Result<(), Fail> {
     // a peer that asks is no source of its own
     question.computer = "pc7";
     question.leave = (false, false);
-    let wanted = [AT_PARIS[0], AT_PARIS[2], AT_PARIS[3], AT_PARIS[4]];
-    look(&rt, rt.alloc(), &groups, &question, &wanted)
+    look(&rt, rt.alloc(), &groups, &question, &WITHOUT_PC7)
 }
 
 #[test]

@@ -1,9 +1,12 @@
 //! The example topology, value by value.
+ghost use Rattle.std.specs.Prelude.{All, IfOk};
+ghost use Rattle.cm_groups.specs.Current.{IsThere};
 
 use cm_base::{List, ServerName};
-use cm_groups::Options;
+use cm_groups::{Groups, Options};
 use cm_net::{Address, SiteName};
-use cm_points::PullSource;
+use cm_peer::Peer;
+use cm_points::{Point, PointGroup, PullSource};
 use cm_topo::{Topology, read_topology};
 use std::alloc::Global;
 use std::test::Fail;
@@ -82,8 +85,13 @@ site = "Lyon"
 connections = 4
 "#;
 
-/// Clients by address and site, and their current groups.
-const CLIENTS: [(&str, &str, &[u16]); 13] = [
+/// A client's address and site, and its current groups.
+type Client = (&'static str, &'static str, &'static [u16]);
+
+/// A client's address and site, the minutes, and the further groups that it reaches.
+type Reached = (&'static str, &'static str, u32, &'static [u16]);
+
+const CLIENTS: [Client; 13] = [
     ("10.1.2.0", "", &[1, 2]),
     ("10.1.2.255", "", &[1, 2]),
     ("10.1.1.255", "", &[]),
@@ -99,8 +107,7 @@ const CLIENTS: [(&str, &str, &[u16]); 13] = [
     ("2001:db8:2::", "", &[]),
 ];
 
-/// A client's address and site, the minutes, and the further groups that it reaches.
-const REACHED: [(&str, &str, u32, &[u16]); 8] = [
+const REACHED: [Reached; 8] = [
     ("10.9.0.1", "paris", 29, &[]),
     ("10.9.0.1", "paris", 30, &[3]),
     ("10.9.0.1", "paris", 119, &[3]),
@@ -185,50 +192,91 @@ fn options_of(number: u16) -> Options {
     }
 }
 
-#[test]
-fn clients_have_their_groups(rt: HostRuntime) -> Result<(), Fail> {
-    let topology = topology(rt.alloc())?;
-    assert_eq!(rt; topology.code.as_bytes(), b"PS1".as_slice());
-    assert_eq!(rt; topology.boundary_count, 4);
-    assert_eq!(rt; topology.group_count, 3);
-    let groups = &topology.groups;
-    for (text, site, wanted) in CLIENTS {
-        let site = SiteName::read(site.as_bytes());
-        let Ok(current) = groups.current(rt.alloc(), address(text)?, site.as_ref()) else {
-            return Err(Fail::new("no memory"));
-        };
-        assert_eq!(rt; current.as_slice(), wanted, "{text}");
-        for number in &current {
-            assert!(rt; groups.options(*number) == options_of(*number), "{number}");
-            assert!(rt;
-                are_names(groups.points(*number), points_of(*number)),
-                "{number}"
-            );
+/// Whether each of the groups is there, with the options and the points of the example.
+fn are_as_written(groups: &Groups, numbers: &[u16]) -> bool {
+    numbers.iter().all(|number| {
+        usize::from(*number) < groups.len()
+            && groups.options(*number) == options_of(*number)
+            && are_names(groups.points(*number), points_of(*number))
+    })
+}
+
+/// The current groups of a client.
+fn current_of(alloc: Global, groups: &Groups, at: &str, site: &str) -> Result<Vec<u16>, Fail>
+    ensures { IfOk result (λ current. All (IsThere groups.now) current.items) }
+{
+    let site = SiteName::read(site.as_bytes());
+    match groups.current(alloc, address(at)?, site.as_ref()) {
+        Ok(current) => Ok(current),
+        Err(_) => Err(Fail::new("no memory")),
+    }
+}
+
+fn has_groups(alloc: Global, groups: &Groups, client: &Client) -> Result<bool, Fail> {
+    let (at, site, wanted) = *client;
+    let current = current_of(alloc, groups, at, site)?;
+    Ok(current.as_slice() == wanted && are_as_written(groups, &current))
+}
+
+fn reaches(alloc: Global, groups: &Groups, reached: &Reached) -> Result<bool, Fail> {
+    let (at, site, minutes, wanted) = *reached;
+    let current = current_of(alloc, groups, at, site)?;
+    match groups.reach(alloc, &current, minutes, true, true) {
+        Ok(further) => Ok(further.as_slice() == wanted && are_as_written(groups, &further)),
+        Err(_) => Err(Fail::new("no memory")),
+    }
+}
+
+fn is_point(point: &Point, written: &(&str, &str, &str, &[&str])) -> Result<bool, Fail> {
+    let (name, at, site, sources) = *written;
+    let is_there = point.address == address(at)? && is_site(&point.site, site);
+    Ok(is_there && point.name.as_bytes() == name.as_bytes() && are_sources(&point.sources, sources))
+}
+
+fn is_peer(peer: &Peer, written: &(&str, &str, &str, u16)) -> Result<bool, Fail> {
+    let (name, at, site, connections) = *written;
+    let is_there = peer.address == address(at)? && is_site(&peer.site, site);
+    Ok(is_there && peer.name.as_bytes() == name.as_bytes() && peer.connections == connections)
+}
+
+fn are_points(points: &[Point]) -> Result<bool, Fail> {
+    for (point, written) in points.iter().zip(POINTS.as_slice()) {
+        if !is_point(point, written)? {
+            return Ok(false);
         }
     }
-    Ok(())
+    Ok(points.len() == POINTS.len())
+}
+
+fn are_peers(peers: &[Peer]) -> Result<bool, Fail> {
+    for (peer, written) in peers.iter().zip(PEERS.as_slice()) {
+        if !is_peer(peer, written)? {
+            return Ok(false);
+        }
+    }
+    Ok(peers.len() == PEERS.len())
+}
+
+fn are_point_groups(groups: &[PointGroup]) -> bool {
+    match groups {
+        [group] => {
+            group.name.as_bytes() == b"all-france".as_slice()
+                && are_names(group.members.items(), &["dp1", "dp4"])
+        }
+        _ => false,
+    }
 }
 
 #[test]
-fn clients_reach_further_groups(rt: HostRuntime) -> Result<(), Fail> {
+fn clients_have_their_groups(rt: HostRuntime) -> Result<(), Fail> {
     let topology = topology(rt.alloc())?;
-    let groups = &topology.groups;
-    for (text, site, minutes, wanted) in REACHED {
-        let site = SiteName::read(site.as_bytes());
-        let Ok(current) = groups.current(rt.alloc(), address(text)?, site.as_ref()) else {
-            return Err(Fail::new("no memory"));
-        };
-        let Ok(reached) = groups.reach(rt.alloc(), &current, minutes, true, true) else {
-            return Err(Fail::new("no memory"));
-        };
-        assert_eq!(rt; reached.as_slice(), wanted, "{text} {minutes}");
-        for number in &reached {
-            assert!(rt; groups.options(*number) == options_of(*number), "{number}");
-            assert!(rt;
-                are_names(groups.points(*number), points_of(*number)),
-                "{number}"
-            );
-        }
+    assert!(rt; topology.code.as_bytes() == b"PS1".as_slice());
+    assert!(rt; topology.boundary_count == 4 && topology.group_count == 3);
+    for client in CLIENTS.iter() {
+        assert!(rt; has_groups(rt.alloc(), &topology.groups, client)?);
+    }
+    for reached in REACHED.iter() {
+        assert!(rt; reaches(rt.alloc(), &topology.groups, reached)?);
     }
     Ok(())
 }
@@ -236,26 +284,8 @@ fn clients_reach_further_groups(rt: HostRuntime) -> Result<(), Fail> {
 #[test]
 fn points_point_groups_and_peers_are_as_written(rt: HostRuntime) -> Result<(), Fail> {
     let topology = topology(rt.alloc())?;
-    let points = topology.points.items();
-    assert_eq!(rt; points.len(), POINTS.len());
-    for (point, (name, at, site, sources)) in points.iter().zip(POINTS.as_slice()) {
-        assert_eq!(rt; point.name.as_bytes(), name.as_bytes());
-        assert!(rt; point.address == address(at)?, "{name}");
-        assert!(rt; is_site(&point.site, site), "{name}");
-        assert!(rt; are_sources(&point.sources, sources), "{name}");
-    }
-    let peers = topology.peers.items();
-    assert_eq!(rt; peers.len(), PEERS.len());
-    for (peer, (name, at, site, connections)) in peers.iter().zip(PEERS.as_slice()) {
-        assert_eq!(rt; peer.name.as_bytes(), name.as_bytes());
-        assert!(rt; peer.address == address(at)?, "{name}");
-        assert!(rt; is_site(&peer.site, site), "{name}");
-        assert_eq!(rt; peer.connections, *connections, "{name}");
-    }
-    let [group] = topology.point_groups.items() else {
-        return Err(Fail::new("not one point group"));
-    };
-    assert_eq!(rt; group.name.as_bytes(), b"all-france".as_slice());
-    assert!(rt; are_names(group.members.items(), &["dp1", "dp4"]));
+    assert!(rt; are_points(topology.points.items())?);
+    assert!(rt; are_peers(topology.peers.items())?);
+    assert!(rt; are_point_groups(topology.point_groups.items()));
     Ok(())
 }

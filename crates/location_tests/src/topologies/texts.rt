@@ -1,8 +1,10 @@
 //! Texts that are no TOML, the code, keys that are unknown, and arrays that are absent.
 
 use super::base::{fault, fault_of};
+use cm_groups::Groups;
 use cm_net::Address;
-use cm_topo::{TopoFault, read_topology};
+use cm_topo::{TopoFault, Topology, read_topology};
+use std::alloc::Global;
 use std::test::Fail;
 
 /// Texts that the grammar of TOML refuses.
@@ -100,26 +102,32 @@ fn unknown_keys_are_passed_over(rt: HostRuntime) -> Result<(), Fail> {
     Ok(())
 }
 
+/// Whether the topology has this code, and no points, point groups and peers.
+fn is_bare(topology: &Topology, code: &[u8]) -> bool {
+    topology.code.as_bytes() == code
+        && topology.points.items().is_empty()
+        && topology.point_groups.items().is_empty()
+        && topology.peers.items().is_empty()
+}
+
+/// Whether the groups are the default one alone, without points, which a client reaches that is in no group.
+fn is_default_alone(alloc: Global, groups: &Groups) -> Result<bool, Fail> {
+    let Ok(current) = groups.current(alloc, Address::V4(0), None) else {
+        return Err(Fail::new("no memory"));
+    };
+    let Ok(reached) = groups.reach(alloc, &current, 0, true, true) else {
+        return Err(Fail::new("no memory"));
+    };
+    let is_bare = groups.len() == 1 && groups.points(0).is_empty();
+    Ok(is_bare && current.is_empty() && reached.as_slice() == [0].as_slice())
+}
+
 #[test]
 fn all_but_the_code_may_be_absent(rt: HostRuntime) -> Result<(), Fail> {
     let Ok(topology) = read_topology(rt.alloc(), b"code = \"0Z9\"") else {
         return Err(Fail::new("no topology"));
     };
-    assert_eq!(rt; topology.code.as_bytes(), b"0Z9".as_slice());
-    assert!(rt; topology.points.items().is_empty());
-    assert!(rt; topology.point_groups.items().is_empty());
-    assert!(rt; topology.peers.items().is_empty());
-    let groups = &topology.groups;
-    let Ok(current) = groups.current(rt.alloc(), Address::V4(0), None) else {
-        return Err(Fail::new("no memory"));
-    };
-    assert!(rt; current.is_empty());
-    let Ok(reached) = groups.reach(rt.alloc(), &current, 0, true, true) else {
-        return Err(Fail::new("no memory"));
-    };
-    assert_eq!(rt; reached.as_slice(), [0].as_slice());
-    for number in &reached {
-        assert!(rt; groups.points(*number).is_empty());
-    }
+    assert!(rt; is_bare(&topology, b"0Z9"));
+    assert!(rt; is_default_alone(rt.alloc(), &topology.groups)?);
     Ok(())
 }
