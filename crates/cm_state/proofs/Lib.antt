@@ -6,8 +6,9 @@ pub mod Lists
 pub mod Loaded
 pub mod Looks
 pub mod Members
-pub mod OneState
+pub mod Needs
 pub mod OnEach
+pub mod OneState
 pub mod Opens
 pub mod Ready
 pub mod Replaying

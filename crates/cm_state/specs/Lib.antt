@@ -5,6 +5,7 @@ pub mod Commits
 pub mod Faults
 pub mod Look
 pub mod Needed
+pub mod Needs
 pub mod Opens
 pub mod Runs
 pub mod SmallLogs

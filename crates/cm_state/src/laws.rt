@@ -14,6 +14,7 @@ ghost use Rattle.cm_state.specs.Sound.{AreNamed};
 ghost use Rattle.cm_state.specs.Standing.{StandsIn};
 ghost use Rattle.cm_state.specs.State.{State, rows_of};
 ghost use Rattle.cm_state.specs.Sure.{AreManifestsSure, AreVersionsSure};
+ghost use Rattle.cm_state.specs.Needs.{NeedsAreEnough};
 ghost use Rattle.cm_state.specs.Opens.{OpensToOne, Opens, OpensOr, EachOpens, EachOpensSome, Stands};
 ghost use Rattle.cm_state.specs.Steps.{EachImageIsPrefixed};
 ghost use Rattle.cm_state.specs.Whole.{AddsWholeTree, TreesAreWhole, TreesOpen};
@@ -24,6 +25,11 @@ use cm_log::Log;
 /// Files open to one state at most.
 pub fn files_open_to_one_state()
     ensures { OpensToOne }
+{}
+
+/// What a state needs is enough: other files that agree at the log's places and at those that the state needs open to it as well.
+pub fn needs_are_enough()
+    ensures { NeedsAreEnough }
 {}
 
 /// Whatever calls, disk faults, crashes and openings follow one another, each image opens to the replay of a prefix of the
