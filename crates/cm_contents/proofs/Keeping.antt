@@ -1,6 +1,6 @@
 -- What is kept in memory is a state, before and after a change.
 use Rattle.std.proofs.Common.{◌≡◌, ℕ, ◌+◌, ◌≤◌, Bool, true, false, List, [], ◌∷◌, ◌++◌, length, refl, sym, ◌∙◌, ap, subst, arith, length-append, eq-eqb}
-use Rattle.std.specs.Prelude.{Option, None, Some, IsSome, option_map, map, filter, find, not, cond, unwrap_or, ◌==◌, ◌&&◌, Result, Ok, Err, IsOk, OnOk, OnErr}
+use Rattle.std.specs.Prelude.{Option, None, Some, IsSome, is_some, IfSome, option_map, map, filter, find, not, cond, unwrap_or, ◌==◌, ◌&&◌, Result, Ok, Err, IsOk, OnOk, OnErr}
 use Rattle.std.specs.List.{AllByRecursion}
 use Rattle.std.specs.Str.{bytes_eq}
 use Rattle.std.specs.Ordering.{is_eq}
@@ -10,7 +10,8 @@ use Rattle.std.proofs.lemmas.List.{map-append, length-map}
 use Rattle.std.proofs.lemmas.Slice.Eq.{bytes_eq-Decides}
 use Rattle.sha2.specs.Sha256.{sha256}
 use Rattle.cm_pkglib.specs.declared.row.PkgRow.{PkgRow}
-use Rattle.cm_pkglib.specs.declared.change.Change.TheVariants.{Opened, Done}
+use Rattle.cm_pkglib.specs.declared.change.Change.{Change}
+use Rattle.cm_pkglib.specs.declared.change.Change.TheVariants.{Opened, Done, Dropped as DroppedRecord, Removed as RemovedRecord}
 use Rattle.cm_pkglib.specs.Rows.{Rows, is_of, is_before, opened_fault, fault_of, with_row, with_done, after}
 use Rattle.cm_pkglib.proofs.Among.{none_of_any, none_of_find}
 use Rattle.cm_pkglib.proofs.Orders.{is_of-version_cmp}
@@ -20,8 +21,9 @@ use Rattle.cm_tree.specs.Manifests.{spelling}
 use Rattle.cm_state.specs.declared.row.VersionRow.{VersionRow}
 use Rattle.cm_state.specs.declared.row.JobRow.{JobRow}
 use Rattle.cm_state.specs.State.{Held, State, held_of, rows_of, with_held, with_done as with_held_done, version_row, job_row, version_rows, job_rows, bytes_of}
-use Rattle.cm_state.specs.Changes.{Begun, Finished, changed}
-use Rattle.cm_contents.specs.Contents.{held_with, job_held_with, state_with, key_cmp, PutsManifest, told_before, with_told, finished_row, with_told_done, AreTold}
+use Rattle.cm_state.specs.Changes.{Begun, Finished, Dropped, Removed, changed}
+use Rattle.cm_base.specs.declared.hash.Hash.{Hash}
+use Rattle.cm_contents.specs.Contents.{held_with, job_held_with, state_with, taken_with, kept_with, key_cmp, PutsManifest, told_before, with_told, finished_row, with_told_done, without_told, AreTold, InMemory, HasMemory}
 use Rattle.cm_state.proofs.Lists.{no_some, and_left, and_right, over_cond, map_back, map_map, find_map, filter_map}
 use Rattle.cm_state.proofs.Loaded.{row_of, job_of, rows_same}
 
@@ -91,6 +93,7 @@ key_apart id version row other = sym (is_of-version_cmp row.package row.version 
 pub puts_manifest : (m n : BTreeMap (List ℕ × ℕ) (List Entry)) (id : List ℕ) (version : ℕ) (manifest : List Entry) → Updates key_cmp m n (id, version) (Some manifest) → PutsManifest m n id version manifest
 puts_manifest m n id version manifest updates = record {
   here = ap (λ (o : Option (List Entry)). unwrap_or o []) updates.1;
+  kept = ap (λ (o : Option (List Entry)). is_some o) updates.1;
   others = λ row other. ap (λ (o : Option (List Entry)). unwrap_or o []) (updates.2 (row.package, row.version) (key_apart id version row other));
 }
 
@@ -237,3 +240,111 @@ pub told_job_is : (job bytes : ℕ) (row : PkgRow) (manifest : List Entry) → r
 told_job_is job bytes row manifest is_row is_bytes =
     ap (λ (r : PkgRow). let told : JobRow = record { job = job; «package» = row.package; version = row.version; entries = r.entries; bytes = bytes; hash = r.hash } in told) is_row
     ∙ ap (λ (b : ℕ). let told : JobRow = record { job = job; «package» = row.package; version = row.version; entries = length manifest; bytes = b; hash = record { 0 = sha256 (spelling manifest) } } in told) is_bytes
+
+-- two maps with the same manifests
+pub same_manifests : (f g : Find) (rows : Rows) → ((id : List ℕ) (version : ℕ) → g id version ≡ f id version) → state_with g rows ≡ state_with f rows
+same_manifests f g rows same =
+    let e : g ≡ f = λ i id version. same id version i in
+    ap (λ (h : Find). state_with h rows) e
+
+-- a job is given up
+pub dropped_with : (f : Find) (rows : Rows) (job : ℕ) → state_with f (after (DroppedRecord job) rows) ≡ changed (Dropped job) (state_with f rows)
+dropped_with f rows job =
+    state_same _ _
+    refl
+    (sym (filter_map (job_held_with f) (λ (u : ℕ × PkgRow). not (u.0 == job)) (λ (u : ℕ × Held). not (u.0 == job)) (λ u. refl) rows.jobs))
+    refl
+    refl
+
+-- a version is removed
+pub removed_with : (f : Find) (rows : Rows) (id : List ℕ) (version : ℕ) → state_with f (after (RemovedRecord id version) rows) ≡ changed (Removed id version) (state_with f rows)
+removed_with f rows id version =
+    state_same _ _
+    (sym (filter_map (held_with f) (λ (r : PkgRow). not (is_of id version r)) (λ (h : Held). not (is_of id version h.row)) (λ r. refl) rows.versions))
+    refl
+    refl
+    refl
+
+-- a filter leaves no more
+fewer : {A : Type 0} (p : A → Bool) (xs : List A) → length (filter p xs) ≤ length xs
+fewer p [] = omega arith
+fewer p (x ∷ xs) = by (p x) (fewer p xs)
+  where
+    by : (b : Bool) → length (filter p xs) ≤ length xs → length (cond b (x ∷ filter p xs) (filter p xs)) ≤ length (x ∷ xs)
+    by true rest = omega arith
+    by false rest = omega arith
+
+pub told_dropped : (s : State) (job : ℕ) (versions : List VersionRow) (jobs : List JobRow) (room more : ℕ) → AreTold s versions jobs room → room ≤ more
+    → AreTold (changed (Dropped job) s) versions (filter (λ (row : JobRow). not (is_job job row)) jobs) more
+told_dropped s job versions jobs room more old grows = record {
+  versions_told = old.versions_told;
+  jobs_told = ap (λ (js : List JobRow). filter (λ (row : JobRow). not (is_job job row)) js) old.jobs_told
+      ∙ filter_map job_row (λ (u : ℕ × Held). not (u.0 == job)) (λ (row : JobRow). not (is_job job row)) (λ u. refl) s.jobs;
+  enough = omega (arith, fewer (λ (row : JobRow). not (is_job job row)) jobs, old.enough);
+}
+
+pub told_removed : (s : State) (id : List ℕ) (version : ℕ) (versions : List VersionRow) (jobs : List JobRow) (room more : ℕ) → AreTold s versions jobs room → room ≤ more
+    → AreTold (changed (Removed id version) s) (without_told id version versions) jobs more
+told_removed s id version versions jobs room more old grows = record {
+  versions_told = ap (λ (vs : List VersionRow). without_told id version vs) old.versions_told
+      ∙ filter_map version_row (λ (h : Held). not (is_of id version h.row)) (λ (row : VersionRow). not (bytes_eq row.package id && row.version == version)) (λ h. refl) s.versions;
+  jobs_told = old.jobs_told;
+  enough = omega (arith, fewer (λ (row : VersionRow). not (bytes_eq row.package id && row.version == version)) versions, old.enough);
+}
+
+-- the room for what is to begin, where there is no less of it
+pub memory_kept : (o : Option Held) (r v j vr jr r' v' j' vr' jr' : ℕ) → r ≤ r' → v' + j' ≤ v + j → j' ≤ j → vr ≤ vr' → jr ≤ jr' → IfSome o (λ _. HasMemory r v j vr jr) → IfSome o (λ _. HasMemory r' v' j' vr' jr')
+memory_kept None r v j vr jr r' v' j' vr' jr' rows sum few versions jobs m = tt
+memory_kept (Some x) r v j vr jr r' v' j' vr' jr' rows sum few versions jobs m = record {
+  in_rows = omega (arith, m.in_rows);
+  in_versions = omega (arith, m.in_versions);
+  in_jobs = omega (arith, m.in_jobs);
+}
+
+-- what is kept in memory, by its two parts
+pub memory_same : (a b : InMemory) → a.state ≡ b.state → a.taken ≡ b.taken → a ≡ b
+memory_same a b s t = λ i. record { state = s i; taken = t i }
+
+-- the job of a version begins whose manifest is in the map
+pub taken_begun : (f : Find) (rows : Rows) (job : ℕ) (row : PkgRow) (key : List ℕ × ℕ) → row ≡ (taken_with f key).row
+    → state_with f (after (Opened job row.package row.version row.entries row.size row.hash) rows) ≡ changed (Begun job key.0 key.1 (f key.0 key.1)) (state_with f rows)
+taken_begun f rows job row key is =
+    subst (λ (r : PkgRow). state_with f (after (Opened job r.package r.version r.entries r.size r.hash) rows) ≡ changed (Begun job key.0 key.1 (f key.0 key.1)) (state_with f rows)) (sym is)
+    (begun_with f f rows job (taken_with f key).row (f key.0 key.1) refl refl refl)
+
+-- its told row
+pub told_taken : (f : Find) (job : ℕ) (row : PkgRow) (key : List ℕ × ℕ) → row ≡ (taken_with f key).row → job_row (job_held_with f (job, row)) ≡ job_row (job, taken_with f key)
+told_taken f job row key is = ap (λ (r : PkgRow). job_row (job_held_with f (job, r))) is
+
+-- the told rows when a job is finished, together and those of jobs
+pub finished_fewer : (job : ℕ) (versions vs : List VersionRow) (jobs js : List JobRow) (done : Option JobRow) → done ≡ find (is_job job) jobs → vs ≡ with_told_done done versions → js ≡ filter (λ (row : JobRow). not (is_job job row)) jobs
+    → (length vs + length js ≤ length versions + length jobs) × (length js ≤ length jobs)
+finished_fewer job versions vs jobs js done is v j =
+    let count : found_count done ≡ found_count (find (is_job job) jobs) = ap (λ (o : Option JobRow). found_count o) is in
+    (omega (arith, done_length done versions, taken_length job jobs, count, ap length v, ap length j), omega (arith, left_length job jobs, ap length j))
+
+-- when a job is given up, and when a version is removed
+pub dropped_fewer : (job : ℕ) (jobs js : List JobRow) → js ≡ filter (λ (row : JobRow). not (is_job job row)) jobs → length js ≤ length jobs
+dropped_fewer job jobs js j = omega (arith, left_length job jobs, ap length j)
+
+pub removed_fewer : (id : List ℕ) (version : ℕ) (versions vs : List VersionRow) → vs ≡ without_told id version versions → length vs ≤ length versions
+removed_fewer id version versions vs v = omega (arith, fewer (λ (row : VersionRow). not (bytes_eq row.package id && row.version == version)) versions, ap length v)
+
+-- the rows take a change where the state's do
+pub change_free : (f : Find) (rows : Rows) (s : State) (change : Change) → state_with f rows ≡ s → fault_of (rows_of s) change ≡ None → fault_of rows change ≡ None
+change_free f rows s change is free =
+    subst (λ (r : Rows). fault_of r change ≡ None) (rows_back f rows) (subst (λ (s : State). fault_of (rows_of s) change ≡ None) (sym is) free)
+
+-- what is taken, with the manifest of the map
+pub taken_is : (f : Find) (rows : Rows) (taken : Option (List ℕ × ℕ)) (m : InMemory) (key : List ℕ × ℕ) → kept_with f rows taken ≡ m → taken ≡ Some key → m.taken ≡ Some (taken_with f key)
+taken_is f rows taken m key view is = sym (ap (λ (m : InMemory). m.taken) view) ∙ ap (λ (o : Option (List ℕ × ℕ)). option_map (taken_with f) o) is
+
+-- its row, by the size and the hash of its encoded manifest
+pub taken_row : (f : Find) (key : List ℕ × ℕ) (row : PkgRow) (size : ℕ) (hash : Hash) → row ≡ record { «package» = key.0; version = key.1; entries = length (f key.0 key.1); size = size; hash = hash } → size ≡ (taken_with f key).row.size → hash ≡ (taken_with f key).row.hash
+    → row ≡ (taken_with f key).row
+taken_row f key row size hash is s h = is ∙ λ i. record { «package» = key.0; version = key.1; entries = length (f key.0 key.1); size = s i; hash = h i }
+
+-- what a map has is its manifest
+pub manifest_there : (o : Option (List Entry)) → is_some o ≡ true → o ≡ Some (unwrap_or o [])
+manifest_there None there = absurd (false≢true there)
+manifest_there (Some manifest) there = refl

@@ -1,5 +1,6 @@
 -- What a library keeps in memory, as a state.
-use Rattle.std.specs.Prelude.{◌≡◌, ℕ, ◌+◌, ◌≤◌, Bool, false, if◌then◌else◌, List, [], ◌∷◌, length, map, Option, Some, None, unwrap_or}
+use Rattle.std.specs.Prelude.{◌≡◌, ℕ, ◌+◌, ◌<◌, ◌≤◌, ◌==◌, ◌&&◌, not, Bool, true, false, is_some, if◌then◌else◌, List, [], ◌∷◌, length, map, filter, Option, Some, None, IfSome, option_map, unwrap_or}
+use Rattle.std.specs.Str.{bytes_eq}
 use Rattle.std.specs.declared.cmp.Ordering.{Ordering}
 use Rattle.std.specs.Ordering.{nat_cmp, is_lt, ordering_then}
 use Rattle.std.specs.Cmp.Lexicographic.{slice_cmp}
@@ -9,7 +10,7 @@ use Rattle.cm_pkglib.specs.Rows.{Rows, is_of}
 use Rattle.cm_tree.specs.declared.entry.Entry.{Entry}
 use Rattle.cm_state.specs.declared.row.VersionRow.{VersionRow}
 use Rattle.cm_state.specs.declared.row.JobRow.{JobRow}
-use Rattle.cm_state.specs.State.{Held, State, version_rows, job_rows}
+use Rattle.cm_state.specs.State.{Held, State, held_of, version_rows, job_rows}
 
 -- a row with the manifest that is found for its package and version
 abbrev pub held_with : (List ℕ → ℕ → List Entry) → PkgRow → Held
@@ -38,6 +39,7 @@ manifest_in_map manifests id version = unwrap_or (get key_cmp manifests (id, ver
 -- a manifest more in the map
 pub record PutsManifest (old new : BTreeMap (List ℕ × ℕ) (List Entry)) (id : List ℕ) (version : ℕ) (manifest : List Entry) : Type 0 where
   pub here : manifest_in_map new id version ≡ manifest
+  pub kept : is_some (get key_cmp new (id, version)) ≡ true
   pub others : (row : PkgRow) → is_of id version row ≡ false → manifest_in_map new row.package row.version ≡ manifest_in_map old row.package row.version
 
 -- a told version stands before another
@@ -62,3 +64,37 @@ pub record AreTold (state : State) (versions : List VersionRow) (jobs : List Job
   pub versions_told : versions ≡ version_rows state
   pub jobs_told : jobs ≡ job_rows state
   pub enough : length versions + length jobs ≤ room
+
+-- A library in memory: its state, and what the job is to make that is to begin and for which memory is taken.
+pub record InMemory : Type 0 where
+  pub state : State
+  pub taken : Option Held
+
+-- a version with the manifest that is found
+abbrev pub taken_with : (List ℕ → ℕ → List Entry) → List ℕ × ℕ → Held
+taken_with find key = held_of key.0 key.1 (find key.0 key.1)
+
+-- these rows with the manifests that are found
+abbrev pub kept_with : (List ℕ → ℕ → List Entry) → Rows → Option (List ℕ × ℕ) → InMemory
+kept_with find rows taken = record { state = state_with find rows; taken = option_map (taken_with find) taken }
+
+-- There is room for a job that begins, and for its end: in the rows, and in those that are told.
+pub record HasMemory (rows_room versions jobs versions_room jobs_room : ℕ) : Type 0 where
+  pub in_rows : 1 ≤ rows_room
+  pub in_versions : versions + jobs + 1 ≤ versions_room
+  pub in_jobs : jobs < jobs_room
+
+-- the map has the manifest of what is to begin
+abbrev pub has_manifest : BTreeMap (List ℕ × ℕ) (List Entry) → Option (List ℕ × ℕ) → Bool
+has_manifest manifests None = true
+has_manifest manifests (Some key) = is_some (get key_cmp manifests key)
+
+-- what is kept in memory: the told rows are those of the state, and there are the manifest of what is to begin and room for it
+pub record IsInMemory (memory : InMemory) (kept : Bool) (rows_room : ℕ) (versions : List VersionRow) (jobs : List JobRow) (versions_room jobs_room : ℕ) : Type 0 where
+  pub told : AreTold memory.state versions jobs versions_room
+  pub manifest_kept : kept ≡ true
+  pub has_memory : IfSome memory.taken (λ held. HasMemory rows_room (length versions) (length jobs) versions_room jobs_room)
+
+-- the told versions without one
+abbrev pub without_told : List ℕ → ℕ → List VersionRow → List VersionRow
+without_told id version rows = filter (λ (row : VersionRow). not (bytes_eq row.package id && row.version == version)) rows

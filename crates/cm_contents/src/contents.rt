@@ -1,14 +1,14 @@
 //! What a library keeps in memory, and how it changes.
-ghost use Rattle.std.specs.Prelude.{◌≡◌, ◌+◌, ◌<◌, ◌≤◌, None, List, ℕ, length, IfOk, OnErr, OnOk, vec_len, vec_capacity};
+ghost use Rattle.std.specs.Prelude.{◌≡◌, ◌+◌, ◌<◌, ◌≤◌, None, Some, List, ℕ, length, IfOk, IfSome, OnErr, OnOk, option_map, vec_len, vec_capacity};
 ghost use Rattle.std.specs.Result.{result_err};
-ghost use Rattle.cm_pkglib.specs.declared.change.Change.TheVariants.{Done as done_change};
+ghost use Rattle.cm_pkglib.specs.declared.change.Change.TheVariants.{Done as done_change, Dropped as dropped_change, Removed as removed_change};
 ghost use Rattle.cm_pkglib.specs.Rows.{last_of, fault_of, opened_fault};
 ghost use Rattle.cm_pkglib.specs.Valid.{AreValid};
-ghost use Rattle.cm_state.specs.Changes.{Begun, Finished, changed};
+ghost use Rattle.cm_state.specs.Changes.{Begun, Finished, Dropped, Removed, changed};
 ghost use Rattle.cm_state.specs.State.{held_of, rows_of, version_rows, job_rows, count_in, entries_in};
 ghost use Rattle.cm_contents.specs.Contents.{state_with, manifest_in_map, PutsManifest};
 
-use crate::told::{jobs_told, manifest_bytes, put_finished, take_told, versions_told};
+use crate::told::{drop_told, job_told, jobs_told, put_finished, take_told, versions_told};
 use cm_base::{Hash, JobId, Memory, PackageId, Version};
 use cm_pkglib::{Change, PkgRow, RowFault, Rows};
 use cm_state::{JobRow, VersionRow};
@@ -20,25 +20,27 @@ use std::marker::Model;
 /// The manifests that are kept, by package and version.
 pub type Manifests = BTreeMap<(PackageId, Version), Manifest>;
 
-/// The versions and the unfinished jobs, each with its manifest, and the rows that are told. Contracts see the state.
+/// The versions and the unfinished jobs, each with its manifest, and the rows that are told. Contracts see the state, and what a
+/// job is to begin with for which memory is taken.
 #[derive(Drop)]
 pub struct Contents {
     pub(crate) rows: Rows,
     pub(crate) manifests: Manifests,
     pub(crate) versions: Vec<VersionRow>,
     pub(crate) jobs: Vec<JobRow>,
+    // the version of a job that is to begin, for which memory is taken; its manifest is in the map
+    pub(crate) taken: Option<(PackageId, Version)>,
 }
 
 impl Model for Contents {
     ghost use Rattle.std.specs.Prelude.{vec_capacity};
-    ghost use Rattle.cm_state.specs.State.{State};
-    ghost use Rattle.cm_contents.specs.Contents.{state_with, manifest_in_map, AreTold};
+    ghost use Rattle.cm_contents.specs.Contents.{InMemory, kept_with, manifest_in_map, has_manifest, IsInMemory};
 
-    ghost Value = { State };
+    ghost Value = { InMemory };
 
-    ghost view = { λ c. state_with (manifest_in_map c.manifests) c.rows.rows };
+    ghost view = { λ c. kept_with (manifest_in_map c.manifests) c.rows.rows c.taken };
 
-    ghost invariant = { λ c. AreTold (state_with (manifest_in_map c.manifests) c.rows.rows) c.versions.items c.jobs.items (vec_capacity c.versions) };
+    ghost invariant = { λ c. IsInMemory (kept_with (manifest_in_map c.manifests) c.rows.rows c.taken) (has_manifest c.manifests c.taken) c.rows.room c.versions.items c.jobs.items (vec_capacity c.versions) (vec_capacity c.jobs) };
 }
 
 // Room for one more told job, and for the end of each.
@@ -56,20 +58,73 @@ fn make_room(versions: &mut Vec<VersionRow>, jobs: &mut Vec<JobRow>) -> Result<(
 }
 
 // A manifest more is kept.
-fn keep_manifest(manifests: &mut Manifests, row: &PkgRow, manifest: Manifest) -> Result<(), Memory>
-    ensures put { OnOk result (PutsManifest manifests.old manifests.new row.now.package row.now.version manifest) }
+fn keep_manifest(
+    manifests: &mut Manifests,
+    key: (PackageId, Version),
+    manifest: Manifest,
+) -> Result<(), Memory>
+    ensures put { OnOk result (PutsManifest manifests.old manifests.new key.0 key.1 manifest) }
     ensures same { OnErr result ((id : List ℕ) (version : ℕ) → manifest_in_map manifests.new id version ≡ manifest_in_map manifests.old id version) }
 {
-    match manifests.insert((row.package, row.version), manifest) {
+    match manifests.insert(key, manifest) {
         Ok(_) => Ok(()),
         Err(_) => Err(Memory),
+    }
+}
+
+// Takes the memory for a job that begins for a version with this manifest, and for its end. The manifest joins the map.
+fn take_room(
+    rows: &mut Rows,
+    manifests: &mut Manifests,
+    versions: &mut Vec<VersionRow>,
+    jobs: &mut Vec<JobRow>,
+    key: (PackageId, Version),
+    manifest: Manifest,
+) -> Result<(), Memory>
+    ensures rows { rows.new.rows ≡ rows.old.rows }
+    ensures rows_room { OnOk result (1 ≤ rows.new.room) }
+    ensures versions { versions.new.items ≡ versions.old.items }
+    ensures jobs { jobs.new.items ≡ jobs.old.items }
+    ensures versions_capacity { vec_capacity versions.old ≤ vec_capacity versions.new }
+    ensures versions_room { OnOk result (length versions.new.items + length jobs.new.items + 1 ≤ vec_capacity versions.new) }
+    ensures jobs_room { OnOk result (length jobs.new.items < vec_capacity jobs.new) }
+    ensures put { OnOk result (PutsManifest manifests.old manifests.new key.0 key.1 manifest) }
+    ensures same { OnErr result ((id : List ℕ) (version : ℕ) → manifest_in_map manifests.new id version ≡ manifest_in_map manifests.old id version) }
+{
+    make_room(versions, jobs)?;
+    let change = Change::Opened {
+        job: rows.next(),
+        package: key.0,
+        version: key.1,
+        entries: 0,
+        size: 0,
+        hash: Hash([0; 32]),
+    };
+    rows.make_room(&change)?;
+    keep_manifest(manifests, key, manifest)
+}
+
+// The row of a version whose manifest is in the map.
+fn row_for(manifests: &Manifests, key: (PackageId, Version), size: u32, hash: Hash) -> PkgRow
+    ensures { result ≡ record { «package» = key.0; version = key.1; entries = length (manifest_in_map manifests.now key.0 key.1); size = size; hash = hash } }
+{
+    let entries = match manifests.get(&key) {
+        Some(manifest) => manifest.entries().len() as u32,
+        None => 0,
+    };
+    PkgRow {
+        package: key.0,
+        version: key.1,
+        entries,
+        size,
+        hash,
     }
 }
 
 impl Contents {
     /// What rows and their manifests make.
     pub fn of(alloc: Global, rows: Rows, manifests: Manifests) -> Result<Contents, Memory>
-        ensures { IfOk result (λ contents. contents ≡ state_with (manifest_in_map manifests) rows.rows) }
+        ensures { IfOk result (λ contents. contents ≡ record { state = state_with (manifest_in_map manifests) rows.rows; taken = None }) }
     {
         let versions = versions_told(alloc, rows.versions(), &manifests, rows.jobs().len())?;
         let jobs = jobs_told(alloc, rows.jobs(), &manifests)?;
@@ -78,62 +133,63 @@ impl Contents {
             manifests,
             versions,
             jobs,
+            taken: None,
         })
     }
 
     pub fn versions(&self) -> &[VersionRow]
-        ensures { result.now ≡ version_rows self.now }
+        ensures { result.now ≡ version_rows self.now.state }
     {
         &self.versions
     }
 
     pub fn jobs(&self) -> &[JobRow]
-        ensures { result.now ≡ job_rows self.now }
+        ensures { result.now ≡ job_rows self.now.state }
     {
         &self.jobs
     }
 
     pub fn last(&self, package: PackageId) -> Option<Version>
-        ensures { result ≡ last_of «package» self.now.lasts }
+        ensures { result ≡ last_of «package» self.now.state.lasts }
     {
         self.rows.last(package)
     }
 
     pub fn next(&self) -> JobId
-        ensures { result ≡ self.now.next }
+        ensures { result ≡ self.now.state.next }
     {
         self.rows.next()
     }
 
     pub fn count(&self) -> u32
-        ensures { result ≡ count_in self.now }
+        ensures { result ≡ count_in self.now.state }
     {
         (self.rows.versions().len() + self.rows.jobs().len()) as u32
     }
 
     pub fn entries(&self) -> u32
-        ensures { result ≡ entries_in self.now }
+        ensures { result ≡ entries_in self.now.state }
     {
         self.rows.entries()
     }
 
     /// Its rows are valid, which is said here alone.
     pub fn tells_valid(&self)
-        ensures { AreValid (rows_of self.now) }
+        ensures { AreValid (rows_of self.now.state) }
     {
         let _rising = self.rows.versions();
     }
 
     /// Why a change is refused.
     pub fn check(&self, change: &Change) -> Result<(), RowFault>
-        ensures { result_err result ≡ fault_of (rows_of self.now) change.now }
+        ensures { result_err result ≡ fault_of (rows_of self.now.state) change.now }
     {
         self.rows.check(change)
     }
 
     /// Why no job may begin for a version with so many entries.
     pub fn begin_fault(&self, id: PackageId, version: Version, entries: u32) -> Option<RowFault>
-        ensures { result ≡ opened_fault (rows_of self.now) self.now.next id version entries }
+        ensures { result ≡ opened_fault (rows_of self.now.state) self.now.state.next id version entries }
     {
         let change = Change::Opened {
             job: self.next(),
@@ -149,23 +205,54 @@ impl Contents {
         }
     }
 
-    /// A job begins for a version with a manifest. After want of memory nothing has changed.
-    pub fn begin(&mut self, row: PkgRow, manifest: Manifest) -> Result<(), Memory>
-        requires free { opened_fault (rows_of self.old) self.old.next row.package row.version row.entries ≡ None }
-        requires row { row ≡ (held_of row.package row.version manifest).row }
-        ensures ok { OnOk result (self.new ≡ changed (Begun self.old.next row.package row.version manifest) self.old) }
-        ensures err { OnErr result (self.new ≡ self.old) }
+    /// Takes the memory that a job for a version with this manifest needs, and that its end needs. After want of memory none is
+    /// taken.
+    pub fn take_memory(
+        &mut self,
+        package: PackageId,
+        version: Version,
+        manifest: Manifest,
+    ) -> Result<(), Memory>
+        requires { opened_fault (rows_of self.old.state) self.old.state.next «package» version (length manifest) ≡ None }
+        ensures ok { OnOk result (self.new ≡ record { state = self.old.state; taken = Some (held_of «package» version manifest) }) }
+        ensures memory { OnErr result (self.new ≡ record { state = self.old.state; taken = None }) }
     {
-        make_room(&mut self.versions, &mut self.jobs)?;
-        let job = self.rows.next();
-        let told = JobRow {
-            job,
-            package: row.package,
-            version: row.version,
-            entries: row.entries,
-            bytes: manifest_bytes(&manifest),
-            hash: row.hash,
+        self.taken = None;
+        take_room(
+            &mut self.rows,
+            &mut self.manifests,
+            &mut self.versions,
+            &mut self.jobs,
+            (package, version),
+            manifest,
+        )?;
+        self.taken = Some((package, version));
+        Ok(())
+    }
+
+    /// The manifest of the job for which memory is taken.
+    pub fn taken(&self) -> Option<&Manifest>
+        ensures { option_map (λ manifest. manifest.now) result ≡ option_map (λ held. held.manifest) self.now.taken }
+    {
+        match self.taken {
+            Some(key) => self.manifests.get(&key),
+            None => None,
+        }
+    }
+
+    /// The job begins for which memory is taken, by the size and the SHA-256 of its encoded manifest. It takes no more memory.
+    pub fn begin(&mut self, size: u32, hash: Hash)
+        requires free { IfSome self.old.taken (λ held. opened_fault (rows_of self.old.state) self.old.state.next held.row.package held.row.version held.row.entries ≡ None) }
+        requires named { IfSome self.old.taken (λ held. (size ≡ held.row.size) × (hash ≡ held.row.hash)) }
+        ensures { IfSome self.old.taken (λ held. self.new ≡ record { state = changed (Begun self.old.state.next held.row.package held.row.version held.manifest) self.old.state; taken = None }) }
+    {
+        let Some(key) = self.taken else {
+            return;
         };
+        self.taken = None;
+        let row = row_for(&self.manifests, key, size, hash);
+        let job = self.rows.next();
+        let told = job_told(job, &row, &self.manifests);
         let change = Change::Opened {
             job,
             package: row.package,
@@ -174,19 +261,35 @@ impl Contents {
             size: row.size,
             hash: row.hash,
         };
-        keep_manifest(&mut self.manifests, &row, manifest)?;
-        self.rows.apply(&change)?;
+        let _applied = self.rows.apply(&change);
         let _pushed = self.jobs.push(told);
-        Ok(())
     }
 
-    /// The version of an unfinished job is there.
+    /// The version of an unfinished job is there. It takes no memory.
     pub fn finish(&mut self, job: JobId)
-        requires { fault_of (rows_of self.old) (done_change job) ≡ None }
-        ensures { self.new ≡ changed (Finished job) self.old }
+        requires { fault_of (rows_of self.old.state) (done_change job) ≡ None }
+        ensures { self.new ≡ record { state = changed (Finished job) self.old.state; taken = self.old.taken } }
     {
         let _applied = self.rows.apply(&Change::Done { job });
         let told = take_told(&mut self.jobs, job);
         put_finished(&mut self.versions, told);
+    }
+
+    /// An unfinished job is given up. It takes no memory.
+    pub fn drop_job(&mut self, job: JobId)
+        requires { fault_of (rows_of self.old.state) (dropped_change job) ≡ None }
+        ensures { self.new ≡ record { state = changed (Dropped job) self.old.state; taken = self.old.taken } }
+    {
+        let _applied = self.rows.apply(&Change::Dropped { job });
+        let _told = take_told(&mut self.jobs, job);
+    }
+
+    /// A version is removed. It takes no memory.
+    pub fn remove(&mut self, package: PackageId, version: Version)
+        requires { fault_of (rows_of self.old.state) (removed_change «package» version) ≡ None }
+        ensures { self.new ≡ record { state = changed (Removed «package» version) self.old.state; taken = self.old.taken } }
+    {
+        let _applied = self.rows.apply(&Change::Removed { package, version });
+        drop_told(&mut self.versions, package, version);
     }
 }

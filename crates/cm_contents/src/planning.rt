@@ -53,7 +53,7 @@ fn hashes_of(
 
 /// The hashes of the files of all versions.
 pub fn named_hashes(alloc: Global, contents: &Contents) -> Result<BTreeSet<Hash>, Memory>
-    ensures { IfOk result (λ set. (q : a_hash) → contains hash_cmp set q ≡ is_named q.0 contents.now) }
+    ensures { IfOk result (λ set. (q : a_hash) → contains hash_cmp set q ≡ is_named q.0 contents.now.state) }
 {
     hashes_of(alloc, &contents.manifests, contents.rows.versions())
 }

@@ -1,6 +1,6 @@
 //! The rows that a library tells are made and changed.
 ghost use Rattle.std.specs.Prelude.{◌≡◌, ◌+◌, ◌^◌, ◌<◌, ◌≤◌, ◌==◌, ◌++◌, ◌∷◌, length, take, drop, map, find, filter, not, IsSome, vec_capacity, IfOk};
-ghost use Rattle.cm_contents.specs.Contents.{held_with, job_held_with, manifest_in_map, told_before, with_told, with_told_done};
+ghost use Rattle.cm_contents.specs.Contents.{held_with, job_held_with, manifest_in_map, told_before, with_told, with_told_done, without_told};
 ghost use Rattle.cm_state.specs.State.{bytes_of, version_row, job_row};
 ghost use Rattle.cm_state.specs.declared.row.JobRow.{JobRow as told_job_row};
 
@@ -50,7 +50,7 @@ fn version_told(row: &PkgRow, manifests: &Manifests) -> VersionRow
     }
 }
 
-fn job_told(job: JobId, row: &PkgRow, manifests: &Manifests) -> JobRow
+pub(crate) fn job_told(job: JobId, row: &PkgRow, manifests: &Manifests) -> JobRow
     ensures { result ≡ job_row (job_held_with (manifest_in_map manifests.now) (job, row.now)) }
 {
     JobRow {
@@ -160,8 +160,17 @@ fn told_job(jobs: &[JobRow], job: JobId) -> Option<JobRow>
 pub(crate) fn take_told(jobs: &mut Vec<JobRow>, job: JobId) -> Option<JobRow>
     ensures found { result ≡ find (λ (row : told_job_row). row.job == job) jobs.old.items }
     ensures rest { jobs.new.items ≡ filter (λ (row : told_job_row). not (row.job == job)) jobs.old.items }
+    ensures capacity { vec_capacity jobs.new ≡ vec_capacity jobs.old }
 {
     let found = told_job(jobs, job);
     jobs.retain(|row| row.job != job);
     found
+}
+
+/// Takes the told row of a version away.
+pub(crate) fn drop_told(rows: &mut Vec<VersionRow>, package: PackageId, version: Version)
+    ensures rows { rows.new.items ≡ without_told «package» version rows.old.items }
+    ensures capacity { vec_capacity rows.new ≡ vec_capacity rows.old }
+{
+    rows.retain(|row| row.package != package || row.version != version);
 }

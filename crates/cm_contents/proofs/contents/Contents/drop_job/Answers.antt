@@ -1,0 +1,40 @@
+use Rattle.std.proofs.Common.{◌≡◌, ◌-◌, List, sym, ◌∙◌, ap, subst, refl, length, arith}
+use Rattle.std.specs.Prelude.{vec_capacity, option_map}
+use Rattle.cm_pkglib.specs.InMemory.{RowsInMemory}
+use Rattle.cm_pkglib.specs.Rows.{Rows, after}
+use Rattle.cm_pkglib.specs.declared.change.Change.TheVariants.{Dropped as DroppedRecord}
+use Rattle.cm_state.specs.declared.row.JobRow.{JobRow}
+use Rattle.cm_state.specs.State.{State}
+use Rattle.cm_state.specs.Changes.{Dropped, changed}
+use Rattle.cm_contents.specs.Contents.{InMemory, manifest_in_map, state_with, taken_with, AreTold}
+use Rattle.cm_contents.proofs.Keeping.{change_free, dropped_with, told_dropped, dropped_fewer, memory_same, memory_kept, on_ok}
+use Rattle.cm_contents.proofs.contents.Contents.drop_job.Goals as goal
+
+pub apply-applied-requires : goal.apply-applied-requires
+apply-applied-requires c = change_free (manifest_in_map c.self.inside.manifests) c.self.inside.rows.rows c.args.self.now.state (DroppedRecord c.args.job) (ap (λ (m : InMemory). m.state) c.self.view_is) c.requires
+
+pub invariant_of-self : goal.invariant_of-self
+invariant_of-self c =
+    let s = c.self.inside in
+    let f = manifest_in_map s.manifests in
+    let rows = s.rows.rows in
+    let applied = on_ok c.apply-applied.result (c.apply-applied.ensures.opened_alone refl) c.apply-applied.ensures.ok in
+    let moved : c.apply-applied.new.self.rows ≡ after (DroppedRecord c.args.job) rows = ap (λ (r : RowsInMemory). r.rows) applied in
+    let same_room : c.apply-applied.new.self.room ≡ s.rows.room - 0 = ap (λ (r : RowsInMemory). r.room) applied in
+    let told = told_dropped (state_with f rows) c.args.job s.versions.items s.jobs.items (vec_capacity s.versions) (vec_capacity s.versions) c.self.invariant.told (omega arith) in
+    let told_jobs = subst (λ (js : List JobRow). AreTold (changed (Dropped c.args.job) (state_with f rows)) s.versions.items js (vec_capacity s.versions)) (sym c.take_told-told.ensures.rest) told in
+    let few = dropped_fewer c.args.job s.jobs.items c.take_told-told.new.jobs.items c.take_told-told.ensures.rest in
+    record {
+      told = subst (λ (t : State). AreTold t s.versions.items c.take_told-told.new.jobs.items (vec_capacity s.versions)) (sym (ap (λ (r : Rows). state_with f r) moved ∙ dropped_with f rows c.args.job)) told_jobs;
+      manifest_kept = c.self.invariant.manifest_kept;
+      has_memory = memory_kept (option_map (taken_with f) s.taken) s.rows.room (length s.versions.items) (length s.jobs.items) (vec_capacity s.versions) (vec_capacity s.jobs)
+          c.apply-applied.new.self.room (length s.versions.items) (length c.take_told-told.new.jobs.items) (vec_capacity s.versions) (vec_capacity c.take_told-told.new.jobs)
+          (omega (arith, same_room)) (omega (arith, few)) few (omega arith) (omega (arith, c.take_told-told.ensures.capacity)) c.self.invariant.has_memory;
+    }
+
+pub returns : goal.returns
+returns c =
+    let f = manifest_in_map c.self.inside.manifests in
+    let rows = c.self.inside.rows.rows in
+    let moved : c.apply-applied.new.self.rows ≡ after (DroppedRecord c.args.job) rows = ap (λ (r : RowsInMemory). r.rows) (on_ok c.apply-applied.result (c.apply-applied.ensures.opened_alone refl) c.apply-applied.ensures.ok) in
+    memory_same _ _ (ap (λ (r : Rows). state_with f r) moved ∙ dropped_with f rows c.args.job ∙ ap (λ (m : InMemory). changed (Dropped c.args.job) m.state) c.self.view_is) (ap (λ (m : InMemory). m.taken) c.self.view_is)
