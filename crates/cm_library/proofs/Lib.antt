@@ -1,3 +1,4 @@
+pub mod AnyMoment
 pub mod MapKept
 pub mod Naming
 pub mod PutSoFar

@@ -1,5 +1,5 @@
 -- Stored manifests, kept in a map.
-use Rattle.std.proofs.Common.{◌≡◌, ℕ, Bool, true, false, List, [], ◌∷◌, ◌++◌, length, suc, ◌+◌, ◌<◌, take, drop, get_or, refl, sym, ◌∙◌, ap, subst, add-one}
+use Rattle.std.proofs.Common.{◌≡◌, ℕ, Bool, true, false, List, [], ◌∷◌, ◌++◌, length, suc, ◌<◌, take, drop, get_or, refl, sym, ◌∙◌, ap}
 use Rattle.std.specs.Prelude.{Option, None, Some, option_map, ok_or, map, Result, Ok, Err, ◌==◌, ◌&&◌}
 use Rattle.std.specs.Option.{option_and_then}
 use Rattle.std.specs.List.{AllByRecursion}
@@ -16,7 +16,7 @@ use Rattle.cm_tree.specs.declared.tree_fault.TreeFault.{TreeFault}
 use Rattle.cm_tree.specs.Reading.{read_manifest}
 use Rattle.cm_datalib.specs.Places.{manifest_place}
 use Rattle.cm_state.specs.State.{Held}
-use Rattle.cm_state.specs.Look.{counted, manifest_in, held, held_or_place, both, of_job, all_held, all_jobs, state_of, loaded}
+use Rattle.cm_state.specs.Look.{counted, manifest_in, held_or_place, both, of_job, all_held, all_jobs, state_of, loaded}
 use Rattle.cm_state.specs.Sure.{held_in, IsManifestSure}
 use Rattle.cm_contents.specs.Contents.{held_with, job_held_with, state_with, manifest_in_map, PutsManifest}
 use Rattle.cm_library.specs.Loads.{Map, IsKept, IsDurable, StaysKept}

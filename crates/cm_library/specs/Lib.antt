@@ -1,2 +1,4 @@
+pub mod Begins
+pub mod Kept
 pub mod Loads
 pub mod Open

@@ -107,7 +107,11 @@ impl<D: Disk> Library<D> {
             Ok(plan) => plan,
             Err(_) => return Err(LibFault::Memory),
         };
-        let job = match self.begin_with(package, version, &manifest) {
+        let kept = match manifest.copy(alloc) {
+            Ok(copy) => copy,
+            Err(_) => return Err(LibFault::Memory),
+        };
+        let job = match self.begin(package, version, kept) {
             Ok(job) => job,
             Err(fault) => return Err(fault),
         };

@@ -1,9 +1,12 @@
 //! A change is committed to a library's log.
-ghost use Rattle.std.specs.Prelude.{◌≡◌, ◌+◌, ◌^◌, ◌≤◌, length, true, None, Some, OnOk};
+ghost use Rattle.std.specs.Prelude.{◌≡◌, ◌≢◌, ◌+◌, ◌^◌, ◌≤◌, length, true, Some, OnErr, OnOk};
 ghost use Rattle.std.specs.Option.{ForSome};
 ghost use Rattle.cm_base.specs.Causes.{HasCause};
-ghost use Rattle.cm_disk.specs.Disk.{Files};
-ghost use Rattle.cm_log.specs.Settled.{shelf_of, place_of, end_of, is_settled, IsSettled, Adds};
+ghost use Rattle.cm_disk.specs.Disk.{Files, LeavesOnly};
+ghost use Rattle.cm_log.specs.Frames.{LeavesAlone};
+ghost use Rattle.cm_log.specs.Logs.{shelved};
+ghost use Rattle.cm_log.specs.Outcomes.{IsPending};
+ghost use Rattle.cm_log.specs.Settled.{shelf_of, place_of, end_of, is_settled, IsSettled, IsUnsettled, IsBeforeOrAfter, Adds};
 ghost use Rattle.cm_pkglib.specs.Changes.{spelled};
 
 use cm_disk::{Disk, DiskFault};
@@ -24,7 +27,11 @@ pub(crate) fn add_record<D: Disk>(
     ensures adds { OnOk result (ForSome (D.reads disk.old) (λ files. (now : Files) × (D.reads disk.new ≡ Some now) × Adds (shelf_of log.old) (place_of log.old) files now (spelled change.now))) }
     ensures end { OnOk result (end_of log.new ≡ end_of log.old + 5 + length (spelled change.now)) }
     ensures shelf { shelf_of log.new ≡ shelf_of log.old }
-    ensures silent { D.reads disk.old ≡ None → D.reads disk.new ≡ None }
+    // A crash at any moment leaves the log from before, with the record or without. After a fault so it stands.
+    ensures any_moment { ForSome (D.reads disk.old) (λ files. LeavesOnly D.moment D.left_since disk.old disk.new (IsBeforeOrAfter (shelf_of log.old) (place_of log.old) (D.may_leave disk.old) (shelved (shelf_of log.old) files) (spelled change.now))) }
+    ensures failed { OnErr result (IsPending log.old log.new (spelled change.now)) }
+    ensures unsettled { OnErr result (ForSome (D.reads disk.old) (λ files. (now : Files) × (D.reads disk.new ≡ Some now) × IsUnsettled now (D.may_leave disk.new) log.new (shelved (shelf_of log.old) files) (spelled change.now))) }
+    ensures alone { LeavesAlone (λ q. q ≢ place_of log.old) D.reads D.may_leave D.moment D.left_since D.faults disk.old disk.new }
     ensures cause { HasCause (D.faults disk.old) (D.faults disk.new) result }
 {
     let mut body = [0u8; 61];

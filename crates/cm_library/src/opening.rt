@@ -1,10 +1,11 @@
 //! A library is opened.
-ghost use Rattle.std.specs.Prelude.{◌≡◌, ◌≤◌, ℕ, List, IfOk, IfErr, MatchResult, IsErrOf};
+ghost use Rattle.std.specs.Prelude.{◌≡◌, ◌≤◌, ℕ, List, None, IfOk, IfErr, MatchResult, IsErrOf};
 ghost use Rattle.std.specs.Option.{ForSome};
 ghost use Rattle.cm_base.specs.Causes.{Rose};
 ghost use Rattle.cm_disk.specs.Disk.{IsImage, LeavesOnly};
 ghost use Rattle.cm_log.specs.Frames.{OnlyReads};
 ghost use Rattle.cm_state.specs.Look.{Missing, Unreadable, look, gate_in, has_room};
+ghost use Rattle.cm_state.specs.Opens.{EachOpens, EachOpensSome};
 ghost use Rattle.cm_state.specs.Sure.{AreManifestsSure};
 ghost use Rattle.cm_library.specs.Open.{disk_of, state_of, end_of, IsOpen};
 ghost use Rattle.cm_state.specs.Standing.{StandsIn, IsReady};
@@ -33,10 +34,11 @@ fn leaves_room(end: u64, rows: &Rows) -> bool
 
 // The log of a library's disk and what is kept of it.
 fn read_library<D: Disk>(alloc: Global, disk: &mut D) -> Result<(Log, Contents), OpenFault>
-    ensures ready { IfOk result (λ found. IsReady found.0 found.1) }
-    ensures stands { IfOk result (λ found. ForSome (D.reads disk.new) (λ files. StandsIn files (D.may_leave disk.new) found.0 found.1)) }
+    ensures ready { IfOk result (λ found. IsReady found.0 found.1.state) }
+    ensures taken { IfOk result (λ found. found.1.taken ≡ None) }
+    ensures stands { IfOk result (λ found. ForSome (D.reads disk.new) (λ files. StandsIn files (D.may_leave disk.new) found.0 found.1.state)) }
     // A crash preserves the stored manifests.
-    ensures manifests { IfOk result (λ found. ForSome (D.reads disk.new) (λ _. AreManifestsSure (D.may_leave disk.new) found.1)) }
+    ensures manifests { IfOk result (λ found. ForSome (D.reads disk.new) (λ _. AreManifestsSure (D.may_leave disk.new) found.1.state)) }
     ensures missing { IsErrOf result OpenFault.NoLibrary → ForSome (D.reads disk.old) (λ files. look files ≡ Missing) }
     ensures unreadable { (place : List ℕ) (at : ℕ) → IsErrOf result (OpenFault.Unreadable place at) → ForSome (D.reads disk.old) (λ files. look files ≡ Unreadable place at) }
     ensures only { OnlyReads D.reads D.may_leave D.moment D.left_since D.faults disk.old disk.new }
@@ -78,6 +80,8 @@ impl<D: Disk> Library<D> {
         // might have left before.
         ensures manifests { IfOk result (λ library. ForSome (D.reads (disk_of library)) (λ _. AreManifestsSure (D.may_leave (disk_of library)) (state_of library))) }
         ensures any_moment { MatchResult result (λ library. LeavesOnly D.moment D.left_since disk (disk_of library) (IsImage (D.may_leave disk))) (λ refused. LeavesOnly D.moment D.left_since disk refused.0 (IsImage (D.may_leave disk))) }
+        // Where each image opened to some state, each opens now to the state that was found.
+        ensures whole { IfOk result (λ library. EachOpensSome (D.may_leave disk) → ForSome (D.reads disk) (λ _. EachOpens (D.may_leave (disk_of library)) (state_of library))) }
         // The log ends where it ends on the disk.
         ensures gate { IfOk result (λ library. ForSome (D.reads disk) (λ files. gate_in files ≡ end_of library)) }
         // The disk reads as before, and is given back after a fault.

@@ -1,6 +1,5 @@
-use Rattle.std.proofs.Common.{ℕ, take, ◌∙◌}
+use Rattle.std.proofs.Common.{take, ◌∙◌}
 use Rattle.cm_log.proofs.Frames.{only_start, only_then}
-use Rattle.cm_pkglib.specs.declared.row.PkgRow.{PkgRow}
 use Rattle.cm_pkglib.proofs.Among.{All-map}
 use Rattle.cm_library.specs.Loads.{IsKept, IsDurable}
 use Rattle.cm_library.proofs.MapKept.{still_durable, lacks_at}

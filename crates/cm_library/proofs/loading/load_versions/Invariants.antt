@@ -1,8 +1,7 @@
-use Rattle.std.proofs.Common.{ℕ, take}
+use Rattle.std.proofs.Common.{take}
 use Rattle.std.specs.Option.{ForSome}
 use Rattle.std.specs.List.{AllByRecursion}
 use Rattle.cm_log.specs.Frames.{OnlyReads}
-use Rattle.cm_pkglib.specs.declared.row.PkgRow.{PkgRow}
 use Rattle.cm_library.specs.Loads.{IsKept, IsDurable, StaysKept}
 use Rattle.cm_library.proofs.loading.load_versions.Given as goal
 

@@ -15,7 +15,7 @@ use Rattle.cm_state.specs.State.{State, rows_of}
 use Rattle.cm_state.specs.Look.{Unreadable as UnreadableLibrary, has_room, look}
 use Rattle.cm_state.specs.Sound.{AreFit}
 use Rattle.cm_state.specs.Sure.{AreManifestsSure}
-use Rattle.cm_contents.specs.Contents.{manifest_in_map, state_with}
+use Rattle.cm_contents.specs.Contents.{InMemory, manifest_in_map, state_with}
 use Rattle.cm_contents.proofs.Keeping.{rows_back}
 use Rattle.cm_state.proofs.Standing.{settled_kept}
 use Rattle.cm_library.specs.Loads.{Map}
@@ -63,7 +63,7 @@ returns-in-Err-load_all-clause-unreadable g c place at is x told =
 pub returns-in-Ok-of-clause-ready : goal.returns-in-Ok-of-clause-ready
 returns-in-Ok-of-clause-ready g c =
     let rows = c.in-Ok-read_rows.rows.rows in
-    let back : rows_of c.in-Ok-of.contents ≡ rows = ap (λ (s : State). rows_of s) c.in-Ok-of.ensures ∙ rows_back (manifest_in_map c.in-Ok-load_all.manifests) rows in
+    let back : rows_of c.in-Ok-of.contents.state ≡ rows = ap (λ (m : InMemory). rows_of m.state) c.in-Ok-of.ensures ∙ rows_back (manifest_in_map c.in-Ok-load_all.manifests) rows in
     record {
       idle = c.done-log.ensures.idle;
       shelf = c.done-log.ensures.shelf ∙ c.read_rows.ensures.shelf ∙ c.in-Ok.ensures.shelf;
@@ -83,7 +83,7 @@ returns-in-Ok-of-clause-stands g c x told =
     let t0 = sym c.open.ensures.only.same ∙ t1 in
     let reading = c.read_rows.ensures.reading x t2 in
     record {
-      stands = all_loaded x (reader_place first) end rows (state_with (manifest_in_map c.in-Ok-load_all.manifests) rows) c.in-Ok-of.contents (sym c.leaves_room.ensures ∙ c.if-not-leaves_room.false) (c.in-Ok-load_all.ensures.loads x t2).state c.in-Ok-of.ensures
+      stands = all_loaded x (reader_place first) end rows (state_with (manifest_in_map c.in-Ok-load_all.manifests) rows) c.in-Ok-of.contents.state (sym c.leaves_room.ensures ∙ c.if-not-leaves_room.false) (c.in-Ok-load_all.ensures.loads x t2).state (ap (λ (m : InMemory). m.state) c.in-Ok-of.ensures)
           (look_closed x (d.may_leave c.read_rows.new.disk) first c.read_rows.new.reader rows end (c.in-Ok.ensures.live x t0) (c.in-Ok-read_rows.ensures.rows x t1) reading c.in-Ok-read_rows.ensures.ended (c.end-end.ensures ∙ c.done-log.ensures.end));
       settled = settled_kept x (d.may_leave c.read_rows.new.disk) (d.may_leave c.load_all.new.disk) c.done-log.result c.load_all.ensures.only.stop
           (settled_when_done x (d.may_leave c.read_rows.new.disk) c.read_rows.new.reader c.done-log.result c.done-log.ensures.shelf c.done-log.ensures.idle (c.done-log.ensures.ends x) reading);
@@ -95,7 +95,7 @@ returns-in-Ok-of-clause-manifests g c x told =
     let rows = c.in-Ok-read_rows.rows.rows in
     let m = c.in-Ok-load_all.manifests in
     let l = c.in-Ok-load_all.ensures.loads x (sym c.load_all.ensures.only.same ∙ told) in
-    subst (λ (s : State). AreManifestsSure (d.may_leave c.load_all.new.disk) s) (sym c.in-Ok-of.ensures)
+    subst (λ (s : State). AreManifestsSure (d.may_leave c.load_all.new.disk) s) (sym (ap (λ (m : InMemory). m.state) c.in-Ok-of.ensures))
     (record {
       versions = manifests_sure x (d.may_leave c.load_all.new.disk) m rows.versions l.kept_versions l.versions;
       jobs = jobs_sure x (d.may_leave c.load_all.new.disk) m rows.jobs l.kept_jobs l.jobs;

@@ -11,7 +11,7 @@ use Rattle.cm_library.proofs.library.Library.store_planned.Goals as goal
 pub loop-at-preserved : goal.loop-at-preserved
 loop-at-preserved g c =
     let v = c.loop-at.invariant in
-    let s = c.args.self.now.contents in
+    let s = c.args.self.now.contents.state in
     let tree = files_of c.args.files.now in
     let plan = c.args.plan.now in
     let i = c.loop-at.at-index in
