@@ -9,7 +9,8 @@ use cm_base::ServerName;
 use cm_disk::Disk;
 use cm_library::{CreateFault, Library};
 
-fn first_without_bay(names: &[ServerName]) -> Option<ServerName>
+/// The first name that is no bay. `init` is refused where there is one.
+pub fn first_without_bay(names: &[ServerName]) -> Option<ServerName>
     ensures { result ≡ no_bay names.now }
 {
     for name in names {

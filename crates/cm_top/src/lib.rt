@@ -17,6 +17,7 @@ mod words;
 
 pub use bay::Bay;
 pub use fault::WordsFault;
+pub use init::first_without_bay;
 pub use line::Line;
 pub use reply::{Ended, Refusal, Reply};
 pub use running::run;

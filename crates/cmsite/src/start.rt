@@ -1,6 +1,6 @@
 //! What the program hands to its commands.
-ghost use Rattle.std.specs.Prelude.{◌≡◌, IfOk, string_bytes};
-ghost use Rattle.cmsite.specs.Arguments.{texts, base_in, folder_in, words_in, site_in};
+ghost use Rattle.std.specs.Prelude.{◌≡◌, true, IfOk, string_bytes};
+ghost use Rattle.cmsite.specs.Arguments.{texts, base_in, folder_in, words_in, site_in, MakesBase};
 
 use crate::base::Base;
 use crate::clock::minute;
@@ -9,7 +9,7 @@ use crate::output::HostSink;
 use crate::site_disk::SiteDisk;
 use cm_base::{Memory, ServerName};
 use cm_disk::HostDisk;
-use cm_top::{Bay, Line, read_words, run};
+use cm_top::{Bay, Line, first_without_bay, read_words, run};
 use cm_tree::HostFolder;
 use std::alloc::Global;
 use std::{env, io};
@@ -68,9 +68,14 @@ fn site_folder(alloc: Global, base: &str) -> Result<String, Memory>
     Ok(path)
 }
 
-// Only `init` makes a base folder.
-fn makes_base(alloc: Global, words: &[String]) -> bool {
-    matches!(read_words(alloc, words), Ok(Line::Init { .. }))
+// Only an `init` that is not refused makes a base folder.
+fn makes_base(alloc: Global, words: &[String]) -> bool
+    ensures { result ≡ true → MakesBase (texts words.now) }
+{
+    match read_words(alloc, words) {
+        Ok(Line::Init { names }) => first_without_bay(names.items()).is_none(),
+        _ => false,
+    }
 }
 
 /// Runs the command of the arguments, and answers its status. The first argument is the base folder, the second one the
