@@ -4,7 +4,7 @@ use Rattle.std.specs.Option.{ForSome}
 use Rattle.std.proofs.lemmas.Result.{IfOk-weaker}
 use Rattle.cm_disk.specs.Disk.{Files, Reads}
 use Rattle.cm_datalib.proofs.Loaded.{whole_read}
-use Rattle.cm_datalib.proofs.loading.read_whole.Goals as goal
+use Rattle.cm_datalib.proofs.loading.read_front.Goals as goal
 
 pub returns-clause-whole : goal.returns-clause-whole
 returns-clause-whole g c =
