@@ -22,6 +22,11 @@ const BAD: &[u8; 9] = b"CMDL\x02\x00\x00\x00\x00";
 
 const BAD_HASH: &[u8; 64] = b"45674d56e3b1b27411412593daa7233e7214abcc0d478a86ef121e82802981e7";
 
+// One byte more than a manifest has at most: that of no files, and zeros.
+const LONG: usize = 5_540_010;
+
+const LONG_HASH: &[u8; 64] = b"6c4f4f300ebcb91a5e2ba066b7eade86ad28ce14939e1319041364c8a4c46c6e";
+
 fn hash_of(text: &[u8; 64]) -> Result<Hash, Fail> {
     match Hash::read(text) {
         Some(hash) => Ok(hash),
@@ -77,7 +82,7 @@ fn place(text: &[u8]) -> Result<Place, Fail> {
 // Puts bytes over the front of the file at a place.
 fn write_raw(disk: &mut MemDisk, text: &[u8], bytes: &[u8]) -> Result<(), Fail> {
     let place = place(text)?;
-    if bytes.len() > 51 {
+    if bytes.len() > LONG {
         return Err(Fail::new("too long"));
     }
     match disk.write_at(&place, 0, bytes) {
@@ -140,6 +145,31 @@ fn other_answers(rt: HostRuntime) -> Result<(), Fail> {
     assert!(rt; sync(&mut disk, id, version(1)?) == Ok(stored));
     assert_eq!(rt;
         count(alloc, &mut disk.crash(0)?, id, 9, hash_of(BAD_HASH)?),
+        Err(bad)
+    );
+    Ok(())
+}
+
+// So many bytes that begin as the manifest of no files, with zeros behind it.
+fn padded(alloc: Global, len: usize) -> Result<Vec<u8>, Fail> {
+    let mut bytes = vec![in alloc; 0u8; len]?;
+    if len < 9 {
+        return Err(Fail::new("too short"));
+    }
+    bytes[..9].copy_from_slice(NONE);
+    Ok(bytes)
+}
+
+#[test]
+fn longer_than_a_manifest(rt: HostRuntime) -> Result<(), Fail> {
+    let alloc = rt.alloc();
+    let mut disk = MemDisk::new(alloc, Vec::new(alloc))?;
+    write_raw(&mut disk, b"DataLib/PS100001.1", &padded(alloc, LONG)?)?;
+    let bad = DataFault::BadManifest {
+        fault: TreeFault::BadForm { at: 9 },
+    };
+    assert_eq!(rt;
+        count(alloc, &mut disk, package()?, 5_540_010, hash_of(LONG_HASH)?),
         Err(bad)
     );
     Ok(())
