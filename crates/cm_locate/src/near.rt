@@ -1,32 +1,10 @@
 //! What is near a client.
-ghost use Rattle.std.specs.Prelude.{◌≡◌, ◌≤◌};
-ghost use Rattle.cm_net.specs.Boundaries.{same_first_bits};
+ghost use Rattle.std.specs.Prelude.{◌≡◌};
 ghost use Rattle.cm_locate.specs.Asks.{IsPrefix, is_asking, is_near, is_of_site, same_subnet};
 
 use crate::Ask;
 use cm_base::ServerName;
-use cm_net::{Address, SiteName};
-
-/// Whether the first bits of two numbers of 32 bits are equal.
-fn same_first_bits4(number: u32, other: u32, bits: u8) -> bool
-    requires { bits ≤ 32 }
-    ensures { result ≡ same_first_bits 32 bits number other }
-{
-    let behind = 32 - u32::from(bits);
-    u64::from(number) >> behind == u64::from(other) >> behind
-}
-
-/// Whether the first bits of two numbers of 128 bits are equal.
-fn same_first_bits6(number: u128, other: u128, bits: u8) -> bool
-    requires { bits ≤ 128 }
-    ensures { result ≡ same_first_bits 128 bits number other }
-{
-    if bits == 0 {
-        return true;
-    }
-    let behind = 128 - u32::from(bits);
-    number >> behind == other >> behind
-}
+use cm_net::{Address, SiteName, same_first_bits4, same_first_bits6};
 
 /// Whether two addresses are of one family, and their first bits are equal.
 fn same_subnet(bits: u8, address: Address, other: Address) -> bool

@@ -17,3 +17,21 @@ pub enum NetFault {
     /// The ends of a range are of two families.
     MixedFamilies,
 }
+
+impl NetFault {
+    ghost use Rattle.std.specs.Prelude.{◌≡◌};
+    ghost use Rattle.cm_net.specs.Meanings.{rule_of};
+
+    /// The number of the rule that the text breaks: 1 to 5, in the order of the variants.
+    pub fn rule(self) -> u8
+        ensures { result ≡ rule_of self }
+    {
+        match self {
+            NetFault::BadAddress { at: _ } => 1,
+            NetFault::BadLength => 2,
+            NetFault::RangeBackwards => 3,
+            NetFault::HostBitsSet => 4,
+            NetFault::MixedFamilies => 5,
+        }
+    }
+}

@@ -32,7 +32,7 @@ pub use boundary::Boundary;
 pub use fault::NetFault;
 pub use index::Index;
 pub use meaning::{each_text_is_read, one_meaning};
-pub use membership::inside;
+pub use membership::{inside, same_first_bits4, same_first_bits6};
 pub use numbers::rising;
 pub use site_name::SiteName;
 pub use steps::Steps;

@@ -6,7 +6,7 @@ ghost use Rattle.cm_net.specs.Boundaries.{holds_site, is_inside, IsSound, same_f
 use crate::{Address, Boundary, SiteName};
 
 /// Whether the first `bits` bits of two numbers of 32 bits are equal.
-fn same_first_bits4(net: u32, address: u32, bits: u8) -> bool
+pub fn same_first_bits4(net: u32, address: u32, bits: u8) -> bool
     requires { bits ≤ 32 }
     ensures { result ≡ same_first_bits 32 bits net address }
 {
@@ -15,7 +15,7 @@ fn same_first_bits4(net: u32, address: u32, bits: u8) -> bool
 }
 
 /// Whether the first `bits` bits of two numbers of 128 bits are equal.
-fn same_first_bits6(net: u128, address: u128, bits: u8) -> bool
+pub fn same_first_bits6(net: u128, address: u128, bits: u8) -> bool
     requires { bits ≤ 128 }
     ensures { result ≡ same_first_bits 128 bits net address }
 {
