@@ -9,6 +9,7 @@ pub mod Fronts
 pub mod Halving
 pub mod Hex
 pub mod JoinedTexts
+pub mod Gapless
 pub mod Machines
 pub mod Named
 pub mod SixTexts

@@ -1,6 +1,7 @@
 -- Spans of addresses with the numbers of their groups, and the segments between the ends of spans.
-use Rattle.std.specs.Prelude.{◌≡◌, ◌↔◌, Contains, IsSomeAnd, ◌≤◌, ℕ, ◌+◌, ◌*◌, ◌-◌, ◌<◌, ◌^◌, ◌==◌, nat_le, nat_lt, Bool, List, map, filter, fold, length, [], ◌∷◌, Option, Some, None, max, if◌then◌else◌}
+use Rattle.std.specs.Prelude.{◌≡◌, ◌↔◌, Contains, IsSomeAnd, ◌≤◌, ℕ, ◌+◌, ◌*◌, ◌-◌, ◌<◌, ◌^◌, ◌==◌, ◌&&◌, nat_le, nat_lt, Bool, List, map, filter, fold, length, [], ◌∷◌, Option, Some, None, max, if◌then◌else◌}
 use Rattle.std.specs.BTreeMap.{BTreeMap, get}
+use Rattle.std.specs.List.{list_any}
 use Rattle.std.specs.List.Sorted.{IsStrictlyIncreasing, IsStrictlySortedBy}
 use Rattle.std.specs.Ordering.{nat_cmp}
 use Rattle.cm_net.specs.declared.span.Span.{Span}
@@ -16,6 +17,16 @@ is_in address span = is_between span.first span.last address
 -- the numbers of the spans that hold the address
 abbrev pub numbers_at : List Span → ℕ → List ℕ
 numbers_at spans address = map (λ span. span.group) (filter (λ span. is_in address span) spans)
+
+-- a span of the group of that number holds the address
+abbrev pub is_held : List Span → ℕ → ℕ → Bool
+is_held spans address group = list_any (λ span. is_in address span && span.group == group) spans
+
+-- the second span is of the group of the first, begins in it or later, and leaves no gap
+pub record GoesOn (before span : Span) : Type 0 where
+  pub group : before.group ≡ span.group
+  pub later : before.first ≤ span.first
+  pub gapless : span.first ≤ before.last + 1
 
 -- what the last segment that begins at or before the address has
 abbrev pub groups_at : List (Entry ℕ) → ℕ → List ℕ

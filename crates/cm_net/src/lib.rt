@@ -13,6 +13,7 @@ mod fault;
 mod four_reader;
 mod halves;
 mod index;
+mod joining;
 mod meaning;
 mod membership;
 mod numbers;
