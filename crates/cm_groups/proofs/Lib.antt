@@ -1,6 +1,7 @@
 pub mod CurrentRows
 pub mod DefaultNames
 pub mod Has
+pub mod Held
 pub mod Holds
 pub mod LaterMinutes
 pub mod Marking

@@ -17,14 +17,21 @@ boundary_of rows name = option_map (λ row. row.1) (find (λ row. bytes_eq row.0
 abbrev pub relation_of : List (List ℕ) → List ℕ × Fallback → Option (ℕ × Fallback)
 relation_of names relation = option_map (λ number. (number, relation.1)) (place_of names relation.0)
 
+-- the boundaries that a text names
+abbrev pub held_by : List (List ℕ × Boundary) → GroupText → List Boundary
+held_by rows text = filter_map (boundary_of rows) text.boundaries
+
+-- the relations that a text names, by the numbers of groups
+abbrev pub leads_by : List (List ℕ) → GroupText → List (ℕ × Fallback)
+leads_by names text = filter_map (relation_of names) text.relations
+
+-- the group that a text describes, with these boundaries and relations
+abbrev pub group_with : GroupText → List Boundary → List (ℕ × Fallback) → Group
+group_with text held leads = record { options = text.options; boundaries = held; points = text.points; relations = leads }
+
 -- the group that a text describes
 abbrev pub group_of : List (List ℕ) → List (List ℕ × Boundary) → GroupText → Group
-group_of names rows text = record {
-  options = text.options;
-  boundaries = filter_map (boundary_of rows) text.boundaries;
-  points = text.points;
-  relations = filter_map (relation_of names) text.relations;
-}
+group_of names rows text = group_with text (held_by rows text) (leads_by names text)
 
 -- the default group: it has points, and neither boundaries nor relations
 abbrev pub default_group : List (List ℕ) → Group

@@ -4,11 +4,13 @@ ghost use Rattle.std.specs.List.{list_any};
 ghost use Rattle.std.specs.Option.{option_or};
 ghost use Rattle.std.specs.Str.{bytes_eq};
 ghost use Rattle.cm_groups.specs.Faults.{boundary_fault, boundary_faults, group_fault, group_faults, has_too_long, is_taken, is_too_many, lacks_boundary, leads_nowhere, leads_to_itself};
-ghost use Rattle.cm_groups.specs.Texts.{has_repeat, is_too_long};
+ghost use Rattle.cm_groups.specs.Groups.{held_by};
+ghost use Rattle.cm_groups.specs.Texts.{has_repeat, is_too_long, names_of_rows};
 
 use crate::names::Names;
 use crate::{Fallback, GroupText, GroupsFault};
-use cm_base::Label;
+use cm_base::{Label, List};
+use cm_net::Boundary;
 
 /// The part of the boundaries.
 const BOUNDARIES: u8 = 0;
@@ -78,8 +80,18 @@ fn lacks_boundary(boundaries: &Names<Label>, text: &GroupText) -> bool
         .any(|name| !boundaries.has(name))
 }
 
-/// Whether one of the relations leads to that group.
-fn lead_to(relations: &[(Label, Fallback)], name: &Label) -> bool
+/// Whether a name of a boundary is that of none: then fewer were found for the group than it names.
+pub fn lacks_one(rows: &[(Label, Boundary)], text: &GroupText, held: &List<Boundary>) -> bool
+    requires { held.now ≡ held_by rows.now text.now }
+    ensures { result ≡ lacks_boundary (names_of_rows rows.now) text.now }
+{
+    // The contract alone speaks of all boundaries.
+    let _rows = rows;
+    held.items().len() < text.boundaries.items().len()
+}
+
+/// Whether one of the relations leads to the group of that name.
+pub fn lead_to(relations: &[(Label, Fallback)], name: &Label) -> bool
     ensures { result ≡ list_any (λ relation. bytes_eq relation.0 name.now) relations.now }
 {
     relations.iter().any(|relation| relation.0 == *name)

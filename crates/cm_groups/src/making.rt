@@ -1,7 +1,7 @@
 //! Groups from their texts, once these have no fault.
 ghost use Rattle.std.specs.Prelude.{◌≡◌, ◌≤◌, ◌∷◌, ◌++◌, IfOk, OnOk, length, map};
-ghost use Rattle.std.specs.List.{filter_map};
-ghost use Rattle.cm_groups.specs.Groups.{boundary_of, default_group, group_of, relation_of};
+ghost use Rattle.std.specs.List.{filter_map, zip};
+ghost use Rattle.cm_groups.specs.Groups.{boundary_of, default_group, group_of, group_with, held_by, leads_by, relation_of};
 ghost use Rattle.cm_groups.specs.Rows.{rows_from};
 ghost use Rattle.cm_groups.specs.Texts.{names_of_rows};
 
@@ -65,33 +65,61 @@ fn relations_of(
         .collect(alloc)
 }
 
-/// The group that a text describes.
-fn group_of(
+/// For each group the boundaries that it names, each looked up once. A name of none is left out.
+pub fn held_by_groups(
     alloc: Global,
-    boundaries: &Names<Label>,
+    names: &Names<Label>,
     rows: &[(Label, Boundary)],
-    groups: &Names<Label>,
-    text: GroupText,
-) -> Result<Group, Memory>
-    requires names { boundaries.now ≡ names_of_rows rows.now }
-    requires few { length groups.now ≤ 501 }
-    ensures { IfOk result (λ made. made ≡ group_of groups.now rows.now text) }
+    texts: &[GroupText],
+) -> Result<Vec<List<Boundary>>, Memory>
+    requires { names.now ≡ names_of_rows rows.now }
+    ensures { IfOk result (λ held. held.items ≡ map (λ text. held_by rows.now text) texts.now) }
 {
-    let held = boundaries_of(alloc, boundaries, rows, text.boundaries.items())?;
-    let relations = relations_of(alloc, groups, text.relations.items())?;
-    let GroupText {
-        name: _,
-        options,
-        boundaries: _,
-        points,
-        relations: _,
-    } = text;
-    Ok(Group {
-        options,
-        boundaries: List::of(held),
-        points,
-        relations: List::of(relations),
-    })
+    let mut held = Vec::new(alloc);
+    for text in texts {
+        let own = boundaries_of(alloc, names, rows, text.boundaries.items())?;
+        held.push(List::of(own))?;
+    }
+    Ok(held)
+}
+
+/// For each group its relations by the numbers of groups.
+fn leads_of_groups(
+    alloc: Global,
+    groups: &Names<Label>,
+    texts: &[GroupText],
+) -> Result<Vec<List<(u16, Fallback)>>, Memory>
+    requires { length groups.now ≤ 501 }
+    ensures { IfOk result (λ leads. leads.items ≡ map (λ text. leads_by groups.now text) texts.now) }
+{
+    let mut leads = Vec::new(alloc);
+    for text in texts {
+        let own = relations_of(alloc, groups, text.relations.items())?;
+        leads.push(List::of(own))?;
+    }
+    Ok(leads)
+}
+
+/// The groups of texts, with the boundaries that each holds and the groups to which it leads.
+fn joined(
+    alloc: Global,
+    texts: Vec<GroupText>,
+    held: Vec<List<Boundary>>,
+    leads: Vec<List<(u16, Fallback)>>,
+) -> Result<Vec<Group>, AllocError>
+    ensures { IfOk result (λ made. made.items ≡ map (λ row. group_with row.0.0 row.0.1 row.1) (zip (zip texts.items held.items) leads.items)) }
+{
+    texts
+        .into_iter()
+        .zip(held)
+        .zip(leads)
+        .map(|((text, held), leads)| Group {
+            options: text.options,
+            boundaries: held,
+            points: text.points,
+            relations: leads,
+        })
+        .collect(alloc)
 }
 
 /// The default group.
@@ -104,6 +132,27 @@ fn default_group(alloc: Global, points: Vec<ServerName>) -> Group
         points: List::of(points),
         relations: List::of(Vec::new(alloc)),
     }
+}
+
+/// All groups by their numbers, with the boundaries that were found for each.
+pub(crate) fn groups_with(
+    alloc: Global,
+    rows: &[(Label, Boundary)],
+    groups: &Names<Label>,
+    texts: Vec<GroupText>,
+    held: Vec<List<Boundary>>,
+    default_points: Vec<ServerName>,
+) -> Result<Vec<Group>, Memory>
+    requires held { held.items ≡ map (λ text. held_by rows.now text) texts.items }
+    requires few { length groups.now ≤ 501 }
+    ensures { IfOk result (λ made. made.items ≡ default_group default_points.items ∷ map (λ text. group_of groups.now rows.now text) texts.items) }
+{
+    // The contract alone speaks of the boundaries.
+    let _rows = rows;
+    let leads = leads_of_groups(alloc, groups, &texts)?;
+    let mut made = joined(alloc, texts, held, leads)?;
+    made.insert(0, default_group(alloc, default_points))?;
+    Ok(made)
 }
 
 /// All groups by their numbers.
@@ -119,12 +168,8 @@ pub(crate) fn groups_of(
     requires few { length groups.now ≤ 501 }
     ensures { IfOk result (λ made. made.items ≡ default_group default_points.items ∷ map (λ text. group_of groups.now rows.now text) texts.items) }
 {
-    let mut made = Vec::new(alloc);
-    made.push(default_group(alloc, default_points))?;
-    for text in texts {
-        made.push(group_of(alloc, boundaries, rows, groups, text)?)?;
-    }
-    Ok(made)
+    let held = held_by_groups(alloc, boundaries, rows, &texts)?;
+    groups_with(alloc, rows, groups, texts, held, default_points)
 }
 
 /// Adds the boundaries of a group with its number.

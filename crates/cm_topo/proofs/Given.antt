@@ -1,14 +1,16 @@
 -- What a fault says of the bytes, and what rows come to.
-use Rattle.std.proofs.Common.{◌≡◌, ◌≢◌, ◌≤◌, ◌∙◌, ℕ, List, [], ◌∷◌, length, map, Option, Some, None, Result, Ok, Err, refl, ap, sym, subst, arith}
+use Rattle.std.proofs.Common.{◌≡◌, ◌≢◌, ◌<◌, ◌≤◌, ◌∙◌, ℕ, List, [], ◌∷◌, get_or, length, map, Option, Some, None, Result, Ok, Err, refl, ap, sym, subst, arith}
 use Rattle.std.specs.List.{zip}
-use Rattle.std.proofs.lemmas.List.{length-map}
+use Rattle.std.proofs.lemmas.List.{get_or-map, length-map}
 use Rattle.cm_groups.specs.declared.fallback.Fallback.{Fallback}
 use Rattle.cm_groups.specs.declared.group_text.GroupText.{GroupText}
+use Rattle.cm_groups.specs.declared.group.Group.{Group}
+use Rattle.cm_groups.specs.Groups.{groups_of, held_by}
+use Rattle.cm_net.specs.declared.boundary.Boundary.{Boundary}
 use Rattle.toml.specs.Data.{Members}
 use Rattle.cm_topo.specs.declared.fault.TopoFault.{TopoFault}
-use Rattle.cm_topo.specs.declared.group_row.GroupRow.{GroupRow}
 use Rattle.cm_topo.specs.declared.known.Known.{Known}
-use Rattle.cm_topo.specs.declared.placed.Placed.{Placed}
+use Rattle.cm_topo.specs.declared.trouble.Placed.{Placed}
 use Rattle.cm_topo.specs.declared.topology.Topology.{Topology}
 use Rattle.cm_topo.specs.declared.topology_text.TopologyText.{TopologyText}
 use Rattle.cm_topo.specs.declared.trouble.Trouble.{Trouble}
@@ -59,7 +61,31 @@ zip_few [] ys = omega arith
 zip_few (x ∷ xs) [] = omega arith
 zip_few (x ∷ xs) (y ∷ ys) = omega (arith, zip_few xs ys)
 
-pub few_texts : (texts : List GroupText) (groups : List GroupRow) (relations : List (List (List ℕ × Fallback))) → texts ≡ map (λ row. with_relations row.0 row.1) (zip groups relations) → length texts ≤ length groups
+pub few_texts : (texts : List GroupText) (groups : List GroupText) (relations : List (List (List ℕ × Fallback))) → texts ≡ map (λ row. with_relations row.0 row.1) (zip groups relations) → length texts ≤ length groups
 few_texts texts groups relations e =
-    let join : GroupRow × List (List ℕ × Fallback) → GroupText = λ row. with_relations row.0 row.1 in
+    let join : GroupText × List (List ℕ × Fallback) → GroupText = λ row. with_relations row.0 row.1 in
     omega (arith, ap length e, length-map (zip groups relations) join, zip_few groups relations)
+
+-- what was found for the group of that number
+pub found_at : (rows : List (List ℕ × Boundary)) (texts : List GroupText) (held : List (List Boundary)) (entry : ℕ) (text : GroupText) (own : List Boundary)
+    → held ≡ map (λ each. held_by rows each) texts → entry < length texts → text ≡ get_or texts entry text → own ≡ get_or held entry own → own ≡ held_by rows text
+found_at rows texts held entry text own are lt is found =
+    let of : GroupText → List Boundary = λ each. held_by rows each in
+    found ∙ ap (λ (xs : List (List Boundary)). get_or xs entry own) are ∙ get_or-map of texts entry text own lt ∙ ap of (sym is)
+
+-- the topology of rows, by what their lists are
+pub topology_is : (text : TopologyText) (rows : List (List ℕ × Boundary)) (near texts : List GroupText) (points : List (List ℕ)) (groups : List Group)
+    → rows ≡ text.sites.boundaries → near ≡ text.sites.groups → texts ≡ text.sites.groups → points ≡ text.servers.default_points → groups ≡ groups_of text.sites.code rows texts points
+    → record { code = text.sites.code; boundary_count = length rows; group_count = length near; groups = groups; points = text.servers.points; point_groups = text.servers.point_groups; peers = text.servers.peers } ≡ topology_of text
+topology_is text rows near texts points groups rows_are near_are texts_are points_are made =
+    let code = text.sites.code in
+    let all : ℕ → ℕ → List Group → Topology = λ boundary_count group_count each.
+    record { code = code; boundary_count = boundary_count; group_count = group_count; groups = each; points = text.servers.points; point_groups = text.servers.point_groups; peers = text.servers.peers } in
+    let same : groups ≡ groups_of code text.sites.boundaries text.sites.groups text.servers.default_points =
+    made
+    ∙ ap (λ (each : List (List ℕ × Boundary)). groups_of code each texts points) rows_are
+    ∙ ap (λ (each : List GroupText). groups_of code text.sites.boundaries each points) texts_are
+    ∙ ap (λ (each : List (List ℕ)). groups_of code text.sites.boundaries text.sites.groups each) points_are in
+    ap (λ (each : List (List ℕ × Boundary)). all (length each) (length near) groups) rows_are
+    ∙ ap (λ (each : List GroupText). all (length text.sites.boundaries) (length each) groups) near_are
+    ∙ ap (λ (each : List Group). all (length text.sites.boundaries) (length text.sites.groups) each) same

@@ -5,7 +5,7 @@ use Rattle.toml.specs.Data.{Members}
 use Rattle.toml.specs.Parse.{parse_document}
 use Rattle.cm_topo.specs.declared.fault.TopoFault.{TopoFault}
 use Rattle.cm_topo.specs.declared.fault.TopoFault.TheVariants.{NotToml, WrongShape, Rule, Memory}
-use Rattle.cm_topo.specs.declared.placed.Placed.{Placed}
+use Rattle.cm_topo.specs.declared.trouble.Placed.{Placed}
 use Rattle.cm_topo.specs.declared.topology.Topology.{Topology}
 use Rattle.cm_topo.specs.declared.topology_text.TopologyText.{TopologyText}
 use Rattle.cm_topo.specs.Rows.{text_read}

@@ -1,5 +1,5 @@
 -- What each table says, its keys in order, and the document as rows: the first pass.
-use Rattle.std.specs.Prelude.{◌≡◌, ℕ, ◌==◌, ◌≤◌, Bool, true, false, List, [], ◌∷◌, length, map, Option, Some, None, Result, Ok, Err, codes, if◌then◌else◌}
+use Rattle.std.specs.Prelude.{ℕ, ◌==◌, true, false, List, [], length, map, Option, Some, None, Result, Ok, Err, codes, if◌then◌else◌}
 use Rattle.std.specs.List.{zip}
 use Rattle.cm_groups.specs.declared.fallback.Fallback.{Fallback}
 use Rattle.cm_groups.specs.declared.fallback.Fallback.TheVariants.{After}
@@ -11,8 +11,7 @@ use Rattle.cm_points.specs.declared.point.Point.{Point}
 use Rattle.cm_points.specs.declared.point.PointGroup.{PointGroup}
 use Rattle.cm_points.specs.declared.point.PullSource.{PullSource}
 use Rattle.toml.specs.Data.{Data, Members, as_table, get_member}
-use Rattle.cm_topo.specs.declared.group_row.GroupRow.{GroupRow}
-use Rattle.cm_topo.specs.declared.placed.Placed.{Placed}
+use Rattle.cm_topo.specs.declared.trouble.Placed.{Placed}
 use Rattle.cm_topo.specs.declared.topology_text.GroupsText.{GroupsText}
 use Rattle.cm_topo.specs.declared.topology_text.ServersText.{ServersText}
 use Rattle.cm_topo.specs.declared.topology_text.TopologyText.{TopologyText}
@@ -44,9 +43,9 @@ options_row d =
     (otherwise false flag_said (get_member (codes "prefer_points") d))
 
 -- `[[group]]`, without its relations
-abbrev pub group_row : Members → Result GroupRow Trouble
+abbrev pub group_row : Members → Result GroupText Trouble
 group_row d =
-    in_order4 (λ name boundaries points options. record { name = name; boundaries = boundaries; points = points; options = options })
+    in_order4 (λ name boundaries points options. record { name = name; options = options; boundaries = boundaries; points = points; relations = [] })
     (needed label_said (get_member (codes "name") d))
     (list_said label_said None (get_member (codes "boundaries") d))
     (list_said name_said None (get_member (codes "points") d))
@@ -107,17 +106,17 @@ default_row d = list_said name_said None (get_member (codes "points") d)
 
 -- the rows of the part of that number, of which there may be so many
 abbrev pub part_said : {X : Type 0} → (Data → Result X Trouble) → ℕ → ℕ → Option Data → Result (List X) Placed
-part_said said part limit value = result_map_err (λ wrong. fault_at part wrong.entry wrong.trouble) (rows_said said (Some limit) value)
+part_said said part limit value = result_map_err (λ wrong. fault_at part wrong.0 wrong.1) (rows_said said (Some limit) value)
 
 -- what a value says that stands in no entry of a part
 abbrev pub alone : {X : Type 0} → ℕ → Result X Trouble → Result X Placed
 alone part said = result_map_err (fault_at part 0) said
 
 -- a group with its relations
-abbrev pub with_relations : GroupRow → List (List ℕ × Fallback) → GroupText
+abbrev pub with_relations : GroupText → List (List ℕ × Fallback) → GroupText
 with_relations group relations = record { name = group.name; options = group.options; boundaries = group.boundaries; points = group.points; relations = relations }
 
-abbrev pub groups_text : List ℕ → List (List ℕ × Boundary) → List GroupRow → List (List (List ℕ × Fallback)) → GroupsText
+abbrev pub groups_text : List ℕ → List (List ℕ × Boundary) → List GroupText → List (List (List ℕ × Fallback)) → GroupsText
 groups_text code boundaries groups relations = record { code = code; boundaries = boundaries; groups = map (λ row. with_relations row.0 row.1) (zip groups relations) }
 
 -- parts 0 to 3: the code, the boundaries, the groups and their relations

@@ -1,9 +1,10 @@
 -- The second pass: the names that refer to others, through the parts in order.
-use Rattle.std.specs.Prelude.{ℕ, ◌+◌, ◌++◌, ◌≤◌, Bool, List, length, map, take}
+use Rattle.std.specs.Prelude.{ℕ, ◌+◌, ◌++◌, ◌≤◌, not, Bool, List, length, map, take}
 use Rattle.std.specs.List.{flat_map, list_any}
 use Rattle.std.specs.Str.{bytes_eq}
 use Rattle.cm_groups.specs.declared.fallback.Fallback.{Fallback}
 use Rattle.cm_groups.specs.declared.group_text.GroupText.{GroupText}
+use Rattle.cm_groups.specs.Faults.{lacks_boundary}
 use Rattle.cm_groups.specs.Names.{is_among, is_before}
 use Rattle.cm_groups.specs.Texts.{group_names, names_of_rows}
 use Rattle.cm_net.specs.declared.boundary.Boundary.{Boundary}
@@ -12,7 +13,7 @@ use Rattle.cm_points.specs.declared.point.Point.{Point}
 use Rattle.cm_points.specs.declared.point.PointGroup.{PointGroup}
 use Rattle.cm_points.specs.declared.point.PullSource.{PullSource}
 use Rattle.cm_topo.specs.declared.known.Known.{Known}
-use Rattle.cm_topo.specs.declared.placed.Placed.{Placed}
+use Rattle.cm_topo.specs.declared.trouble.Placed.{Placed}
 use Rattle.cm_topo.specs.declared.topology_text.GroupsText.{GroupsText}
 use Rattle.cm_topo.specs.declared.topology_text.ServersText.{ServersText}
 use Rattle.cm_topo.specs.declared.topology_text.TopologyText.{TopologyText}
@@ -34,9 +35,9 @@ known_of text = record {
 abbrev pub repeated : List (List ℕ) → ℕ → List ℕ → List Trouble
 repeated names end name = broken_if (is_before names end name) same_name
 
--- each of the wanted names that is not there
-abbrev pub missing : ℕ → List (List ℕ) → List (List ℕ) → List Trouble
-missing rule names wanted = flat_map (λ name. broken_unless (is_among names name) rule) wanted
+-- one of the wanted names is not there
+abbrev pub lacks : List (List ℕ) → List (List ℕ) → Bool
+lacks names wanted = list_any (λ name. not (is_among names name)) wanted
 
 -- the name of a boundary
 abbrev pub boundary_refers : Known → ℕ → List ℕ × Boundary → List Trouble
@@ -46,19 +47,15 @@ boundary_refers known entry row = repeated known.boundaries entry row.0
 abbrev pub group_refers : Known → ℕ → GroupText → List Trouble
 group_refers known entry text =
     repeated known.groups (entry + 1) text.name
-    ++ missing no_such_boundary known.boundaries text.boundaries
-    ++ missing no_such_point known.points text.points
-
--- one of the relations leads there
-abbrev pub leads_to : List (List ℕ × Fallback) → List ℕ → Bool
-leads_to relations to = list_any (λ relation. bytes_eq relation.0 to) relations
+    ++ broken_if (lacks_boundary known.boundaries text) no_such_boundary
+    ++ broken_if (lacks known.points text.points) no_such_point
 
 -- where a relation of a group of that name leads, behind these relations
 abbrev pub relation_refers : Known → List ℕ → List (List ℕ × Fallback) → List ℕ → List Trouble
 relation_refers known name before to =
     broken_unless (is_among known.groups to) no_such_group
     ++ broken_if (bytes_eq to name) self_relation
-    ++ broken_if (leads_to before to) same_relation
+    ++ broken_if (list_any (λ relation. bytes_eq relation.0 to) before) same_relation
 
 -- the relations of a group of that name, in order
 abbrev pub relations_refer : Known → List ℕ → List (List ℕ × Fallback) → List Trouble
@@ -79,7 +76,7 @@ point_refers known entry point = repeated known.points entry point.name ++ flat_
 
 -- the name of a point group, and its members
 abbrev pub point_group_refers : Known → ℕ → PointGroup → List Trouble
-point_group_refers known entry group = repeated known.point_groups entry group.name ++ missing no_such_point known.points group.members
+point_group_refers known entry group = repeated known.point_groups entry group.name ++ broken_if (lacks known.points group.members) no_such_point
 
 -- the name of a peer
 abbrev pub peer_refers : Known → ℕ → Peer → List Trouble
@@ -98,7 +95,7 @@ servers_refer known text =
     each_entry 4 (point_refers known) 0 text.points
     ++ each_entry 5 (point_group_refers known) 0 text.point_groups
     ++ each_entry 6 (peer_refers known) 0 text.peers
-    ++ map (fault_at 7 0) (missing no_such_point known.points text.default_points)
+    ++ map (fault_at 7 0) (broken_if (lacks known.points text.default_points) no_such_point)
 
 -- all parts in order, by the names that there are
 abbrev pub refers : Known → TopologyText → List Placed

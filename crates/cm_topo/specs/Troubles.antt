@@ -2,7 +2,7 @@
 use Rattle.std.specs.Prelude.{ℕ, ◌+◌, ◌++◌, Bool, List, [], ◌∷◌, map, Option, Some, None, Result, Ok, Err, if◌then◌else◌}
 use Rattle.cm_topo.specs.declared.fault.TopoFault.{TopoFault}
 use Rattle.cm_topo.specs.declared.fault.TopoFault.TheVariants as fault
-use Rattle.cm_topo.specs.declared.placed.Placed.{Placed}
+use Rattle.cm_topo.specs.declared.trouble.Placed.{Placed}
 use Rattle.cm_topo.specs.declared.trouble.Trouble.{Trouble}
 use Rattle.cm_topo.specs.declared.trouble.Trouble.TheVariants.{Shape, Broken, Memory}
 

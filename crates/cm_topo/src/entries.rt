@@ -1,27 +1,21 @@
 //! The entries of arrays, and values at keys.
-ghost use Rattle.std.specs.Prelude.{◌≡◌, ◌≢◌, ◌<◌, ◌≤◌, All, IfErr, IfOk, IfSome, Ok, Err, length, map, option_map};
-ghost use Rattle.toml.specs.Data.{get_member};
+ghost use Rattle.std.specs.Prelude.{◌≡◌, ◌≢◌, ◌<◌, ◌≤◌, [], All, IfErr, IfOk, IfSome, OnOk, Result, Ok, Err, length, map, option_map};
+ghost use Rattle.toml.specs.Data.{Data, get_member};
 ghost use Rattle.toml.specs.View.{table_view, view};
-ghost use Rattle.cm_topo.specs.Entries.{array_rows, entry_said, list_said, rows_from, rows_said};
+ghost use Rattle.cm_topo.specs.Entries.{entry_said, list_said, rows_from, rows_said};
 ghost use Rattle.cm_topo.specs.Keys.{needed, otherwise, perhaps};
 ghost use Rattle.cm_topo.specs.Rows.{part_said};
+ghost use Rattle.cm_topo.specs.declared.trouble.Trouble.{Trouble};
 ghost use Rattle.cm_topo.specs.declared.trouble.Trouble.TheVariants.{Memory};
 
-use crate::placed::Placed;
 use crate::rules::TOO_MANY;
-use crate::trouble::Trouble;
-use crate::wrong::Wrong;
-use std::alloc::{AllocError, Global};
+use crate::trouble::{Placed, Trouble};
+use cm_base::{List, Memory as NoMemory};
+use std::alloc::Global;
 use toml::{Table, Value};
 
 /// What a value of a document says.
 pub(crate) trait Said: Drop + Sized {
-    ghost use Rattle.std.specs.Prelude.{◌≡◌, ◌≢◌, IfErr, IfOk, Result, Ok, Err};
-    ghost use Rattle.toml.specs.Data.{Data};
-    ghost use Rattle.toml.specs.View.{view};
-    ghost use Rattle.cm_topo.specs.declared.trouble.Trouble.{Trouble};
-    ghost use Rattle.cm_topo.specs.declared.trouble.Trouble.TheVariants.{Memory};
-
     /// What a value says, or what is wrong with it.
     ghost said: { Data → Result Self Trouble };
 
@@ -105,49 +99,47 @@ fn entry<R: Said>(
     R::read(alloc, value)
 }
 
-/// The rows of entries, in order: the first entry with which something is wrong is answered.
-fn rows_of<R: Said>(alloc: Global, limit: Option<usize>, values: &[Value]) -> Result<Vec<R>, Wrong>
-    ensures said { IfOk result (λ rows. rows_from R.said limit 0 (map view values.now) ≡ Ok rows.items) }
-    ensures fit { IfOk result (λ rows. All R.IsFit rows.items) }
-    ensures few { IfOk result (λ rows. IfSome limit (λ most. length rows.items ≤ most)) }
-    ensures wrong { IfErr result (λ wrong. wrong.trouble ≢ Memory → rows_from R.said limit 0 (map view values.now) ≡ Err wrong) }
-    ensures within { IfErr result (λ wrong. IfSome limit (λ most. wrong.entry ≤ most)) }
+/// Adds the rows of entries, in order, before the first entry with which something is wrong: its number is how many were added.
+fn add_rows<R: Said>(
+    alloc: Global,
+    rows: &mut Vec<R>,
+    limit: Option<usize>,
+    values: &[Value],
+) -> Result<(), Trouble>
+    requires { rows.old.items ≡ [] }
+    ensures said { OnOk result (rows_from R.said limit 0 (map view values.now) ≡ Ok rows.new.items) }
+    ensures fit { All R.IsFit rows.new.items }
+    ensures few { IfSome limit (λ most. length rows.new.items ≤ most) }
+    ensures wrong { IfErr result (λ trouble. trouble ≢ Memory → rows_from R.said limit 0 (map view values.now) ≡ Err (length rows.new.items, trouble)) }
 {
-    let mut rows = Vec::with_capacity(alloc, values.len())?;
+    rows.reserve(values.len()).map_err(NoMemory::from)?;
     for (number, value) in values.iter().enumerate() {
-        match entry::<R>(alloc, limit, number, value) {
-            Ok(row) => rows.push(row).map_err(AllocError::from)?,
-            Err(trouble) => return Err(Wrong {
-                entry: number,
-                trouble,
-            }),
-        }
+        let row = entry::<R>(alloc, limit, number, value)?;
+        rows.push(row).map_err(NoMemory::from)?;
     }
-    Ok(rows)
+    Ok(())
 }
 
-/// The rows of the array at a key, none where it is absent.
-fn rows_at<R: Said>(
+/// Adds the rows of the array at a key, none where it is absent, before the first entry with which something is wrong.
+fn add_rows_at<R: Said>(
     alloc: Global,
+    rows: &mut Vec<R>,
     limit: Option<usize>,
     table: &Table,
     key: &str,
-) -> Result<Vec<R>, Wrong>
-    ensures said { IfOk result (λ rows. rows_said R.said limit (get_member key.now (table_view table.now)) ≡ Ok rows.items) }
-    ensures fit { IfOk result (λ rows. All R.IsFit rows.items) }
-    ensures few { IfOk result (λ rows. IfSome limit (λ most. length rows.items ≤ most)) }
-    ensures wrong { IfErr result (λ wrong. wrong.trouble ≢ Memory → rows_said R.said limit (get_member key.now (table_view table.now)) ≡ Err wrong) }
-    ensures within { IfErr result (λ wrong. IfSome limit (λ most. wrong.entry ≤ most)) }
+) -> Result<(), Trouble>
+    requires { rows.old.items ≡ [] }
+    ensures said { OnOk result (rows_said R.said limit (get_member key.now (table_view table.now)) ≡ Ok rows.new.items) }
+    ensures fit { All R.IsFit rows.new.items }
+    ensures few { IfSome limit (λ most. length rows.new.items ≤ most) }
+    ensures wrong { IfErr result (λ trouble. trouble ≢ Memory → rows_said R.said limit (get_member key.now (table_view table.now)) ≡ Err (length rows.new.items, trouble)) }
 {
     let Some(value) = value_at(table, key) else {
-        return Ok(Vec::new(alloc));
+        return Ok(());
     };
     match value.as_array() {
-        Some(array) => rows_of(alloc, limit, array.as_slice()),
-        None => Err(Wrong {
-            entry: 0,
-            trouble: Trouble::Shape,
-        }),
+        Some(array) => add_rows(alloc, rows, limit, array.as_slice()),
+        None => Err(Trouble::Shape),
     }
 }
 
@@ -157,11 +149,13 @@ pub(crate) fn list_at<R: Said>(
     limit: Option<usize>,
     table: &Table,
     key: &str,
-) -> Result<Vec<R>, Trouble>
-    ensures said { IfOk result (λ rows. list_said R.said limit (get_member key.now (table_view table.now)) ≡ Ok rows.items) }
+) -> Result<List<R>, Trouble>
+    ensures said { IfOk result (λ rows. list_said R.said limit (get_member key.now (table_view table.now)) ≡ Ok rows) }
     ensures wrong { IfErr result (λ trouble. trouble ≢ Memory → list_said R.said limit (get_member key.now (table_view table.now)) ≡ Err trouble) }
 {
-    Ok(rows_at(alloc, limit, table, key)?)
+    let mut rows = Vec::new(alloc);
+    add_rows_at(alloc, &mut rows, limit, table, key)?;
+    Ok(List::of(rows))
 }
 
 /// The rows of the part of that number, whose array stands at a key and has so many entries at most.
@@ -178,8 +172,9 @@ pub(crate) fn part_of<R: Said>(
     ensures few { IfOk result (λ rows. length rows.items ≤ limit) }
     ensures wrong { IfErr result (λ placed. placed.trouble ≢ Memory → part_said R.said part limit (get_member key.now (table_view table.now)) ≡ Err placed) }
 {
-    match rows_at(alloc, Some(limit), table, key) {
-        Ok(rows) => Ok(rows),
-        Err(wrong) => Err(wrong.trouble.at(part, wrong.entry as u16)),
+    let mut rows = Vec::new(alloc);
+    match add_rows_at(alloc, &mut rows, Some(limit), table, key) {
+        Ok(()) => Ok(rows),
+        Err(trouble) => Err(trouble.at(part, rows.len() as u16)),
     }
 }

@@ -1,7 +1,5 @@
 //! What is wrong with the text of a topology.
 
-use cm_base::Memory as NoMemory;
-
 /// What is wrong with the text of a topology. Parts: 0 the code, 1 boundaries, 2 groups, 3 relations, 4 points, 5 point groups,
 /// 6 peers, 7 the default points. `entry` counts from 0 in its part; for a relation it is the number of its group, for a source
 /// that of its point, and 0 for parts 0 and 7 and for a part that is no array.
@@ -18,15 +16,4 @@ pub enum TopoFault {
     Rule { rule: u8, part: u8, entry: u16 },
     /// There was no memory.
     Memory,
-}
-
-impl From<NoMemory> for TopoFault {
-    ghost use Rattle.std.specs.Prelude.{◌≡◌};
-    ghost use Rattle.cm_topo.specs.declared.fault.TopoFault.TheVariants.{Memory};
-
-    ghost from_gives = { λ _ fault. fault ≡ Memory };
-
-    fn from(_error: NoMemory) -> TopoFault {
-        TopoFault::Memory
-    }
 }

@@ -1,22 +1,21 @@
 //! What single values say.
 ghost use Rattle.std.specs.Prelude.{◌≡◌, ◌≤◌, IfErr, IfOk, IfSome, None, Some, Ok, Err};
 ghost use Rattle.cm_net.specs.Boundaries.{IsSound};
-ghost use Rattle.cm_net.specs.Meanings.{IsAddressOf, IsBoundaryOf, rule_of};
+ghost use Rattle.cm_net.specs.Meanings.{IsAddressOf, IsBoundaryOf};
 ghost use Rattle.cm_net.specs.Readings.{address_in as address_meant, boundary_in as boundary_meant};
 ghost use Rattle.toml.specs.Data.{as_str};
 ghost use Rattle.toml.specs.View.{view};
-ghost use Rattle.cm_topo.specs.Keys.{is_reserved, number_said, within};
+ghost use Rattle.cm_topo.specs.Keys.{address_said, boundary_said, code_said, flag_said, is_reserved, label_said, minutes_said, name_said, number_said, within};
 ghost use Rattle.cm_topo.specs.declared.trouble.Trouble.TheVariants.{Shape};
 
 use crate::entries::Said;
 use crate::rules::{
-    BAD_ADDRESS, BAD_LENGTH, BAD_NAME, HOST_BITS_SET, MIXED_FAMILIES, MOST_CONNECTIONS,
-    MOST_MINUTES, MOST_PRIORITY, RANGE_BACKWARDS, TOO_LONG_FALLBACK,
+    BAD_ADDRESS, BAD_NAME, MOST_CONNECTIONS, MOST_MINUTES, MOST_PRIORITY, TOO_LONG_FALLBACK,
 };
 use crate::trouble::Trouble;
 use cm_base::{Label, ServerName};
 use cm_groups::{Fallback, SiteCode};
-use cm_net::{Address, Boundary, NetFault, SiteName, each_text_is_read};
+use cm_net::{Address, Boundary, SiteName, each_text_is_read};
 use std::alloc::Global;
 use toml::Value;
 
@@ -29,8 +28,6 @@ fn text_in(value: &Value) -> Result<&str, Trouble>
 }
 
 impl Said for Label {
-    ghost use Rattle.cm_topo.specs.Keys.{label_said};
-
     ghost said = { label_said };
 
     fn read(_alloc: Global, value: &Value) -> Result<Label, Trouble> {
@@ -40,8 +37,6 @@ impl Said for Label {
 }
 
 impl Said for ServerName {
-    ghost use Rattle.cm_topo.specs.Keys.{name_said};
-
     ghost said = { name_said };
 
     fn read(_alloc: Global, value: &Value) -> Result<ServerName, Trouble> {
@@ -51,8 +46,6 @@ impl Said for ServerName {
 }
 
 impl Said for SiteName {
-    ghost use Rattle.cm_topo.specs.Keys.{name_said};
-
     ghost said = { name_said };
 
     fn read(_alloc: Global, value: &Value) -> Result<SiteName, Trouble> {
@@ -62,8 +55,6 @@ impl Said for SiteName {
 }
 
 impl Said for SiteCode {
-    ghost use Rattle.cm_topo.specs.Keys.{code_said};
-
     ghost said = { code_said };
 
     fn read(_alloc: Global, value: &Value) -> Result<SiteCode, Trouble> {
@@ -98,26 +89,11 @@ fn address_of(text: &[u8]) -> Option<Address>
 }
 
 impl Said for Address {
-    ghost use Rattle.cm_topo.specs.Keys.{address_said};
-
     ghost said = { address_said };
 
     fn read(_alloc: Global, value: &Value) -> Result<Address, Trouble> {
         let text = text_in(value)?;
         address_of(text.as_bytes()).ok_or(Trouble::Broken(BAD_ADDRESS))
-    }
-}
-
-/// The rule that a text of a boundary breaks.
-fn rule_of(fault: NetFault) -> u8
-    ensures { result ≡ rule_of fault }
-{
-    match fault {
-        NetFault::BadAddress { at: _ } => BAD_ADDRESS,
-        NetFault::BadLength => BAD_LENGTH,
-        NetFault::RangeBackwards => RANGE_BACKWARDS,
-        NetFault::HostBitsSet => HOST_BITS_SET,
-        NetFault::MixedFamilies => MIXED_FAMILIES,
     }
 }
 
@@ -128,7 +104,7 @@ fn boundary_read(text: &[u8]) -> Result<Boundary, u8>
 {
     match Boundary::read(text) {
         Ok(boundary) => Ok(boundary),
-        Err(fault) => Err(rule_of(fault)),
+        Err(fault) => Err(fault.rule()),
     }
 }
 
@@ -142,9 +118,6 @@ fn boundary_of(text: &[u8]) -> Result<Boundary, u8>
 }
 
 impl Said for Boundary {
-    ghost use Rattle.cm_net.specs.Boundaries.{IsSound};
-    ghost use Rattle.cm_topo.specs.Keys.{boundary_said};
-
     ghost said = { boundary_said };
 
     ghost IsFit = { IsSound };
@@ -159,8 +132,6 @@ impl Said for Boundary {
 }
 
 impl Said for bool {
-    ghost use Rattle.cm_topo.specs.Keys.{flag_said};
-
     ghost said = { flag_said };
 
     fn read(_alloc: Global, value: &Value) -> Result<bool, Trouble> {
@@ -191,8 +162,6 @@ fn number_in(value: &Value, most: u16) -> Result<u16, Trouble>
 
 /// A priority.
 impl Said for u8 {
-    ghost use Rattle.cm_topo.specs.Keys.{number_said};
-
     ghost said = { number_said 255 };
 
     fn read(_alloc: Global, value: &Value) -> Result<u8, Trouble> {
@@ -205,8 +174,6 @@ impl Said for u8 {
 
 /// A number of connections.
 impl Said for u16 {
-    ghost use Rattle.cm_topo.specs.Keys.{number_said};
-
     ghost said = { number_said 65535 };
 
     fn read(_alloc: Global, value: &Value) -> Result<u16, Trouble> {
@@ -216,8 +183,6 @@ impl Said for u16 {
 
 /// The minutes of a relation.
 impl Said for Fallback {
-    ghost use Rattle.cm_topo.specs.Keys.{minutes_said};
-
     ghost said = { minutes_said };
 
     fn read(_alloc: Global, value: &Value) -> Result<Fallback, Trouble> {

@@ -3,10 +3,8 @@
 
 mod entries;
 mod fault;
-mod group_row;
 mod keys;
 mod known;
-mod placed;
 mod reading;
 mod rows;
 mod rules;
@@ -14,7 +12,6 @@ mod second_pass;
 mod topology;
 mod topology_text;
 mod trouble;
-mod wrong;
 
 pub use fault::TopoFault;
 pub use reading::read_topology;

@@ -1,51 +1,50 @@
 //! Reading the text of a topology.
-ghost use Rattle.std.specs.Prelude.{◌≡◌, ◌≢◌, [], All, IfErr, IfOk, Ok, Err, codes, map};
+ghost use Rattle.std.specs.Prelude.{◌≡◌, ◌≢◌, All, IfErr, IfOk, Ok, Err, map};
 ghost use Rattle.std.specs.List.{zip};
+ghost use Rattle.cm_groups.specs.Groups.{held_by};
 ghost use Rattle.cm_net.specs.Boundaries.{IsSound};
-ghost use Rattle.toml.specs.Data.{get_member};
 ghost use Rattle.toml.specs.View.{table_view};
-ghost use Rattle.cm_topo.specs.Keys.{code_said, needed, otherwise};
 ghost use Rattle.cm_topo.specs.Outcomes.{Says, both_passes, checked, topology_of};
-ghost use Rattle.cm_topo.specs.Rows.{alone, default_row, groups_read, servers_read, table_said, text_read, with_relations};
+ghost use Rattle.cm_topo.specs.Rows.{alone, groups_read, servers_read, with_relations};
 ghost use Rattle.cm_topo.specs.SecondPass.{AreFewGroups, AreFewServers, known_of};
 ghost use Rattle.cm_topo.specs.declared.trouble.Trouble.TheVariants.{Memory};
 
 use crate::entries::{needed_at, otherwise_at, part_of};
-use crate::group_row::GroupRow;
 use crate::known::Known;
-use crate::placed::Placed;
 use crate::rules::{MOST_BOUNDARIES, MOST_GROUPS, MOST_PEERS, MOST_POINT_GROUPS, MOST_POINTS};
 use crate::second_pass::second_pass_fault;
 use crate::topology_text::{GroupsText, ServersText, TopologyText};
-use crate::trouble::Trouble;
+use crate::trouble::{Placed, Trouble};
 use crate::{TopoFault, Topology};
 use cm_base::{Label, List, Memory as NoMemory, ServerName};
-use cm_groups::{Fallback, GroupText, Groups, SiteCode};
+use cm_groups::{Fallback, GroupText, Groups, SiteCode, held_by_groups};
 use cm_net::Boundary;
 use cm_peer::Peer;
 use cm_points::{Point, PointGroup};
-use std::alloc::{AllocError, Global};
+use std::alloc::Global;
 use toml::Table;
 
 /// The groups with their relations.
 fn texts_of(
     alloc: Global,
-    groups: Vec<GroupRow>,
+    groups: Vec<GroupText>,
     relations: Vec<List<(Label, Fallback)>>,
-) -> Result<Vec<GroupText>, AllocError>
+) -> Result<Vec<GroupText>, NoMemory>
     ensures { IfOk result (λ texts. texts.items ≡ map (λ row. with_relations row.0 row.1) (zip groups.items relations.items)) }
 {
-    groups
-        .into_iter()
-        .zip(relations)
-        .map(|(row, relations)| GroupText {
-            name: row.name,
-            options: row.options,
-            boundaries: row.boundaries,
-            points: row.points,
-            relations,
-        })
-        .collect(alloc)
+    Ok(
+        groups
+            .into_iter()
+            .zip(relations)
+            .map(|(text, relations)| GroupText {
+                name: text.name,
+                options: text.options,
+                boundaries: text.boundaries,
+                points: text.points,
+                relations,
+            })
+            .collect(alloc)?,
+    )
 }
 
 /// What a value says that stands in no entry of a part.
@@ -67,7 +66,7 @@ fn groups_of(alloc: Global, table: &Table) -> Result<GroupsText, Placed>
 {
     let code = alone(0, needed_at::<SiteCode>(alloc, table, "code"))?;
     let boundaries = part_of::<(Label, Boundary)>(alloc, table, 1, "boundary", MOST_BOUNDARIES)?;
-    let groups = part_of::<GroupRow>(alloc, table, 2, "group", MOST_GROUPS)?;
+    let groups = part_of::<GroupText>(alloc, table, 2, "group", MOST_GROUPS)?;
     let relations = part_of::<List<(Label, Fallback)>>(alloc, table, 3, "group", MOST_GROUPS)?;
     let groups = texts_of(alloc, groups, relations)?;
     Ok(GroupsText {
@@ -96,21 +95,16 @@ fn servers_of(alloc: Global, table: &Table) -> Result<ServersText, Placed>
     })
 }
 
-/// The rows of a document.
-fn text_of(alloc: Global, table: &Table) -> Result<TopologyText, Placed>
-    ensures said { IfOk result (λ text. text_read (table_view table.now) ≡ Ok text) }
-    ensures few { IfOk result (λ text. AreFewGroups text.sites × AreFewServers text.servers) }
-    ensures sound { IfOk result (λ text. All (λ row. IsSound row.1) text.sites.boundaries) }
-    ensures wrong { IfErr result (λ placed. placed.trouble ≢ Memory → text_read (table_view table.now) ≡ Err placed) }
-{
-    let sites = groups_of(alloc, table)?;
-    let servers = servers_of(alloc, table)?;
-    Ok(TopologyText { sites, servers })
-}
-
-/// The topology of rows, by the names that there are. A name that is not there is left out.
-fn topology_of(alloc: Global, known: &Known, text: TopologyText) -> Result<Topology, NoMemory>
+/// The topology of rows, by the names that there are and the boundaries that were found for each group. A name that is not there
+/// is left out.
+fn topology_of(
+    alloc: Global,
+    known: &Known,
+    text: TopologyText,
+    held: Vec<List<Boundary>>,
+) -> Result<Topology, NoMemory>
     requires known { known.now ≡ known_of text }
+    requires held { held.items ≡ map (λ each. held_by text.sites.boundaries each) text.sites.groups }
     requires few { AreFewGroups text.sites }
     requires sound { All (λ row. IsSound row.1) text.sites.boundaries }
     ensures { IfOk result (λ topology. topology ≡ topology_of text) }
@@ -127,10 +121,10 @@ fn topology_of(alloc: Global, known: &Known, text: TopologyText) -> Result<Topol
     let groups = Groups::of_names(
         alloc,
         code,
-        &known.boundaries,
         rows,
         &known.groups,
         groups.into_items(),
+        held,
         servers.default_points.into_items(),
     )?;
     Ok(Topology {
@@ -152,10 +146,17 @@ fn checked(alloc: Global, text: TopologyText) -> Result<Topology, Placed>
     ensures wrong { IfErr result (λ placed. placed.trouble ≢ Memory → checked text ≡ Err placed) }
 {
     let known = Known::of(alloc, &text)?;
-    if let Some(fault) = second_pass_fault(&known, &text) {
+    let sites = &text.sites;
+    let held = held_by_groups(
+        alloc,
+        &known.boundaries,
+        sites.boundaries.items(),
+        sites.groups.items(),
+    )?;
+    if let Some(fault) = second_pass_fault(&known, &text, &held) {
         return Err(fault);
     }
-    Ok(topology_of(alloc, &known, text)?)
+    Ok(topology_of(alloc, &known, text, held)?)
 }
 
 /// The topology of a document, or its first fault.
@@ -163,8 +164,9 @@ fn topology_in(alloc: Global, table: &Table) -> Result<Topology, Placed>
     ensures said { IfOk result (λ topology. both_passes (table_view table.now) ≡ Ok topology) }
     ensures wrong { IfErr result (λ placed. placed.trouble ≢ Memory → both_passes (table_view table.now) ≡ Err placed) }
 {
-    let text = text_of(alloc, table)?;
-    checked(alloc, text)
+    let sites = groups_of(alloc, table)?;
+    let servers = servers_of(alloc, table)?;
+    checked(alloc, TopologyText { sites, servers })
 }
 
 /// The topology that a text in TOML says, or its first fault: `NotToml` exactly where `toml` refuses the text, and not for want of

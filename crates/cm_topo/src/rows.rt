@@ -1,17 +1,17 @@
 //! What tables say, their keys in order.
-ghost use Rattle.std.specs.Prelude.{◌≡◌, ◌≢◌, ◌≤◌, All, IfErr, IfOk, Ok, Err, codes, length};
+ghost use Rattle.std.specs.Prelude.{◌≡◌, ◌≢◌, IfErr, IfOk, Some, None, Ok, Err, codes};
+ghost use Rattle.cm_net.specs.Boundaries.{IsSound};
 ghost use Rattle.toml.specs.Data.{as_table, get_member};
 ghost use Rattle.toml.specs.View.{table_view, view};
-ghost use Rattle.cm_topo.specs.Rows.{default_row, options_row, point_name_said, sources_said, table_said};
+ghost use Rattle.cm_topo.specs.Rows.{boundary_row, default_row, group_row, options_row, peer_row, point_group_row, point_row, relation_row, relations_row, source_row, sources_said, table_said};
 ghost use Rattle.cm_topo.specs.declared.trouble.Trouble.TheVariants.{Memory, Shape};
 
 use crate::entries::{Said, list_at, needed_at, otherwise_at, perhaps_at, value_at};
-use crate::group_row::GroupRow;
 use crate::keys::is_reserved;
 use crate::rules::{BAD_NAME, MOST_RELATIONS, NO_PULL_SOURCE};
 use crate::trouble::Trouble;
 use cm_base::{Label, List, ServerName};
-use cm_groups::{Fallback, Options};
+use cm_groups::{Fallback, GroupText, Options};
 use cm_net::{Address, Boundary, SiteName};
 use cm_peer::Peer;
 use cm_points::{Point, PointGroup, PullSource};
@@ -30,9 +30,6 @@ fn table_in(value: &Value) -> Result<&Table, Trouble>
 }
 
 impl Said for (Label, Boundary) {
-    ghost use Rattle.cm_net.specs.Boundaries.{IsSound};
-    ghost use Rattle.cm_topo.specs.Rows.{boundary_row, table_said};
-
     ghost said = { table_said boundary_row };
 
     ghost IsFit = { λ row. IsSound row.1 };
@@ -60,29 +57,27 @@ fn options_of(alloc: Global, table: &Table) -> Result<Options, Trouble>
     })
 }
 
-impl Said for GroupRow {
-    ghost use Rattle.cm_topo.specs.Rows.{group_row, table_said};
-
+/// A group, without its relations.
+impl Said for GroupText {
     ghost said = { table_said group_row };
 
-    fn read(alloc: Global, value: &Value) -> Result<GroupRow, Trouble> {
+    fn read(alloc: Global, value: &Value) -> Result<GroupText, Trouble> {
         let table = table_in(value)?;
         let name = needed_at::<Label>(alloc, table, "name")?;
         let boundaries = list_at::<Label>(alloc, None, table, "boundaries")?;
         let points = list_at::<ServerName>(alloc, None, table, "points")?;
         let options = options_of(alloc, table)?;
-        Ok(GroupRow {
+        Ok(GroupText {
             name,
-            boundaries: List::of(boundaries),
-            points: List::of(points),
             options,
+            boundaries,
+            points,
+            relations: List::of(Vec::new(alloc)),
         })
     }
 }
 
 impl Said for (Label, Fallback) {
-    ghost use Rattle.cm_topo.specs.Rows.{relation_row, table_said};
-
     ghost said = { table_said relation_row };
 
     fn read(alloc: Global, value: &Value) -> Result<(Label, Fallback), Trouble> {
@@ -95,25 +90,15 @@ impl Said for (Label, Fallback) {
 
 /// The relations of a group.
 impl Said for List<(Label, Fallback)> {
-    ghost use Rattle.cm_topo.specs.Rows.{relations_row, table_said};
-
     ghost said = { table_said relations_row };
 
     fn read(alloc: Global, value: &Value) -> Result<List<(Label, Fallback)>, Trouble> {
         let table = table_in(value)?;
-        let relations = list_at::<(Label, Fallback)>(
-            alloc,
-            Some(MOST_RELATIONS),
-            table,
-            "relation",
-        )?;
-        Ok(List::of(relations))
+        list_at(alloc, Some(MOST_RELATIONS), table, "relation")
     }
 }
 
 impl Said for PullSource {
-    ghost use Rattle.cm_topo.specs.Rows.{source_row, table_said};
-
     ghost said = { table_said source_row };
 
     fn read(alloc: Global, value: &Value) -> Result<PullSource, Trouble> {
@@ -133,32 +118,21 @@ fn sources_of(alloc: Global, table: &Table) -> Result<List<PullSource>, Trouble>
         return Ok(List::of(Vec::new(alloc)));
     }
     let sources = list_at::<PullSource>(alloc, None, table, "sources")?;
-    if sources.is_empty() {
+    if sources.items().is_empty() {
         return Err(Trouble::Broken(NO_PULL_SOURCE));
     }
-    Ok(List::of(sources))
-}
-
-/// The name of a point.
-fn point_name_of(alloc: Global, table: &Table) -> Result<ServerName, Trouble>
-    ensures said { IfOk result (λ name. point_name_said (get_member (codes "name") (table_view table.now)) ≡ Ok name) }
-    ensures wrong { IfErr result (λ trouble. trouble ≢ Memory → point_name_said (get_member (codes "name") (table_view table.now)) ≡ Err trouble) }
-{
-    let name = needed_at::<ServerName>(alloc, table, "name")?;
-    if is_reserved(&name) {
-        return Err(Trouble::Broken(BAD_NAME));
-    }
-    Ok(name)
+    Ok(sources)
 }
 
 impl Said for Point {
-    ghost use Rattle.cm_topo.specs.Rows.{point_row, table_said};
-
     ghost said = { table_said point_row };
 
     fn read(alloc: Global, value: &Value) -> Result<Point, Trouble> {
         let table = table_in(value)?;
-        let name = point_name_of(alloc, table)?;
+        let name = needed_at::<ServerName>(alloc, table, "name")?;
+        if is_reserved(&name) {
+            return Err(Trouble::Broken(BAD_NAME));
+        }
         let address = needed_at::<Address>(alloc, table, "address")?;
         let site = perhaps_at::<SiteName>(alloc, table, "site")?;
         let sources = sources_of(alloc, table)?;
@@ -172,24 +146,17 @@ impl Said for Point {
 }
 
 impl Said for PointGroup {
-    ghost use Rattle.cm_topo.specs.Rows.{point_group_row, table_said};
-
     ghost said = { table_said point_group_row };
 
     fn read(alloc: Global, value: &Value) -> Result<PointGroup, Trouble> {
         let table = table_in(value)?;
         let name = needed_at::<Label>(alloc, table, "name")?;
         let members = list_at::<ServerName>(alloc, None, table, "members")?;
-        Ok(PointGroup {
-            name,
-            members: List::of(members),
-        })
+        Ok(PointGroup { name, members })
     }
 }
 
 impl Said for Peer {
-    ghost use Rattle.cm_topo.specs.Rows.{peer_row, table_said};
-
     ghost said = { table_said peer_row };
 
     fn read(alloc: Global, value: &Value) -> Result<Peer, Trouble> {
@@ -209,12 +176,10 @@ impl Said for Peer {
 
 /// The default points.
 impl Said for List<ServerName> {
-    ghost use Rattle.cm_topo.specs.Rows.{default_row, table_said};
-
     ghost said = { table_said default_row };
 
     fn read(alloc: Global, value: &Value) -> Result<List<ServerName>, Trouble> {
         let table = table_in(value)?;
-        Ok(List::of(list_at::<ServerName>(alloc, None, table, "points")?))
+        list_at(alloc, None, table, "points")
     }
 }

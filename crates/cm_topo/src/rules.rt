@@ -1,14 +1,6 @@
-//! The rules by their numbers, and how many entries there may be.
+//! The rules by their numbers, and how many entries there may be. What else is wrong with a boundary, rules 2 to 5, cm_net numbers.
 
 pub(crate) const BAD_ADDRESS: u8 = 1;
-
-pub(crate) const BAD_LENGTH: u8 = 2;
-
-pub(crate) const RANGE_BACKWARDS: u8 = 3;
-
-pub(crate) const HOST_BITS_SET: u8 = 4;
-
-pub(crate) const MIXED_FAMILIES: u8 = 5;
 
 pub(crate) const SAME_NAME: u8 = 6;
 

@@ -1,32 +1,28 @@
 //! The second pass: the names that refer to others.
-ghost use Rattle.std.specs.Prelude.{◌≡◌, ◌≤◌, length, map};
+ghost use Rattle.std.specs.Prelude.{◌≡◌, ◌≤◌, ℕ, List, length, map};
 ghost use Rattle.std.specs.List.{flat_map};
-ghost use Rattle.cm_groups.specs.Names.{is_among};
-ghost use Rattle.cm_topo.specs.Rules.{no_such_boundary, no_such_point};
-ghost use Rattle.cm_topo.specs.SecondPass.{AreFewGroups, AreFewServers, group_relations_refer, groups_refer, leads_to, missing, refers, relation_refers, relations_refer, servers_refer, source_refers};
-ghost use Rattle.cm_topo.specs.Troubles.{each_entry, fault_at, first};
+ghost use Rattle.cm_groups.specs.Groups.{held_by};
+ghost use Rattle.cm_groups.specs.Texts.{names_of_rows};
+ghost use Rattle.cm_topo.specs.SecondPass.{AreFewGroups, AreFewServers, boundary_refers, group_refers, group_relations_refer, groups_refer, known_of, lacks, peer_refers, point_group_refers, point_refers, refers, relation_refers, relations_refer, servers_refer, source_refers};
+ghost use Rattle.cm_topo.specs.Troubles.{broken_if, each_entry, first};
+ghost use Rattle.cm_topo.specs.declared.known.Known.{Known};
+ghost use Rattle.cm_topo.specs.declared.trouble.Trouble.{Trouble};
 
 use crate::known::Known;
-use crate::placed::Placed;
 use crate::rules::{
     NO_SUCH_BOUNDARY, NO_SUCH_GROUP, NO_SUCH_POINT, PULL_FROM_ITSELF, SAME_NAME, SAME_RELATION,
     SELF_RELATION,
 };
 use crate::topology_text::{GroupsText, ServersText, TopologyText};
-use crate::trouble::Trouble;
-use cm_base::{Label, ServerName};
-use cm_groups::{Fallback, GroupText, Names};
+use crate::trouble::{Placed, Trouble};
+use cm_base::{Label, List, ServerName};
+use cm_groups::{Fallback, GroupText, Names, lacks_one, lead_to};
 use cm_net::Boundary;
 use cm_peer::Peer;
 use cm_points::{Point, PointGroup, PullSource};
 
 /// A row of a part, with names that refer to others.
 trait Refers: Drop {
-    ghost use Rattle.std.specs.Prelude.{◌≡◌, ◌≤◌, ℕ, List};
-    ghost use Rattle.cm_topo.specs.declared.known.Known.{Known};
-    ghost use Rattle.cm_topo.specs.declared.trouble.Trouble.{Trouble};
-    ghost use Rattle.cm_topo.specs.Troubles.{first};
-
     /// What is wrong with the row of that number, by the names that there are.
     ghost refers: { Known → ℕ → Self → List Trouble };
 
@@ -49,79 +45,73 @@ fn part_fault<R: Refers>(known: &Known, part: u8, rows: &[R]) -> Option<Placed>
     None
 }
 
-/// Whether there is a label.
-fn has_label(names: &Names<Label>, name: &Label) -> bool
-    ensures { result ≡ is_among names.now name.now }
+/// What is wrong where a rule is broken.
+fn broken_if(test: bool, rule: u8) -> Option<Trouble>
+    ensures { first (broken_if test rule) ≡ result }
 {
-    names.has(name)
-}
-
-/// Whether there is a server of that name.
-fn has_server(names: &Names<ServerName>, name: &ServerName) -> bool
-    ensures { result ≡ is_among names.now name.now }
-{
-    names.has(name)
-}
-
-/// The first of the wanted boundaries that is not there.
-fn missing_boundary(boundaries: &Names<Label>, wanted: &[Label]) -> Option<Trouble>
-    ensures { first (missing no_such_boundary boundaries.now wanted.now) ≡ result }
-{
-    for name in wanted {
-        if !has_label(boundaries, name) {
-            return Some(Trouble::Broken(NO_SUCH_BOUNDARY));
-        }
-    }
-    None
-}
-
-/// The first of the wanted points that is not there.
-fn missing_point(points: &Names<ServerName>, wanted: &[ServerName]) -> Option<Trouble>
-    ensures { first (missing no_such_point points.now wanted.now) ≡ result }
-{
-    for name in wanted {
-        if !has_server(points, name) {
-            return Some(Trouble::Broken(NO_SUCH_POINT));
-        }
-    }
-    None
-}
-
-impl Refers for (Label, Boundary) {
-    ghost use Rattle.cm_topo.specs.SecondPass.{boundary_refers};
-
-    ghost refers = { boundary_refers };
-
-    fn trouble(&self, known: &Known, entry: usize) -> Option<Trouble> {
-        if known.boundaries.has_before(entry, &self.0) {
-            return Some(Trouble::Broken(SAME_NAME));
-        }
+    if test {
+        Some(Trouble::Broken(rule))
+    } else {
         None
     }
 }
 
-impl Refers for GroupText {
-    ghost use Rattle.cm_topo.specs.SecondPass.{group_refers};
+/// Whether one of the wanted points is not there.
+fn lack(points: &Names<ServerName>, wanted: &[ServerName]) -> bool
+    ensures { result ≡ lacks points.now wanted.now }
+{
+    wanted.iter().any(|name| !points.has(name))
+}
 
-    ghost refers = { group_refers };
+impl Refers for (Label, Boundary) {
+    ghost refers = { boundary_refers };
 
-    // The default group stands before the others.
     fn trouble(&self, known: &Known, entry: usize) -> Option<Trouble> {
-        if known.groups.has_before(entry + 1, &self.name) {
-            return Some(Trouble::Broken(SAME_NAME));
-        }
-        if let Some(trouble) = missing_boundary(&known.boundaries, self.boundaries.items()) {
-            return Some(trouble);
-        }
-        missing_point(&known.points, self.points.items())
+        broken_if(known.boundaries.has_before(entry, &self.0), SAME_NAME)
     }
 }
 
-/// Whether one of the relations leads to that group.
-fn lead_to(relations: &[(Label, Fallback)], to: &Label) -> bool
-    ensures { result ≡ leads_to relations.now to.now }
+/// What is wrong with the group of that number, for which these boundaries were found.
+fn group_trouble(
+    known: &Known,
+    rows: &[(Label, Boundary)],
+    entry: usize,
+    text: &GroupText,
+    held: &List<Boundary>,
+) -> Option<Trouble>
+    requires names { known.now.boundaries ≡ names_of_rows rows.now }
+    requires held { held.now ≡ held_by rows.now text.now }
+    requires few { entry ≤ 5000 }
+    ensures { first (group_refers known.now entry text.now) ≡ result }
 {
-    relations.iter().any(|relation| relation.0 == *to)
+    // The default group stands before the others.
+    if known.groups.has_before(entry + 1, &text.name) {
+        return Some(Trouble::Broken(SAME_NAME));
+    }
+    if lacks_one(rows, text, held) {
+        return Some(Trouble::Broken(NO_SUCH_BOUNDARY));
+    }
+    broken_if(lack(&known.points, text.points.items()), NO_SUCH_POINT)
+}
+
+/// The first fault of the groups, for which these boundaries were found.
+fn group_faults(
+    known: &Known,
+    rows: &[(Label, Boundary)],
+    texts: &[GroupText],
+    held: &[List<Boundary>],
+) -> Option<Placed>
+    requires names { known.now.boundaries ≡ names_of_rows rows.now }
+    requires held { held.now ≡ map (λ text. held_by rows.now text) texts.now }
+    requires few { length texts.now ≤ 500 }
+    ensures { first (each_entry 2 (group_refers known.now) 0 texts.now) ≡ result }
+{
+    for (entry, text) in texts.iter().enumerate() {
+        if let Some(trouble) = group_trouble(known, rows, entry, text, &held[entry]) {
+            return Some(trouble.at(2, entry as u16));
+        }
+    }
+    None
 }
 
 /// What is wrong with a relation to that group, behind others of a group of that name.
@@ -139,10 +129,7 @@ fn relation_trouble(
     if *to == *name {
         return Some(Trouble::Broken(SELF_RELATION));
     }
-    if lead_to(before, to) {
-        return Some(Trouble::Broken(SAME_RELATION));
-    }
-    None
+    broken_if(lead_to(before, to), SAME_RELATION)
 }
 
 /// What is wrong with the first relation that has a fault, in a group of that name.
@@ -182,10 +169,7 @@ fn source_trouble(known: &Known, name: &ServerName, source: &PullSource) -> Opti
     if !known.points.has(&source.point) {
         return Some(Trouble::Broken(NO_SUCH_POINT));
     }
-    if source.point == *name {
-        return Some(Trouble::Broken(PULL_FROM_ITSELF));
-    }
-    None
+    broken_if(source.point == *name, PULL_FROM_ITSELF)
 }
 
 /// What is wrong with the first source that has a fault, in a point of that name.
@@ -201,8 +185,6 @@ fn sources_trouble(known: &Known, name: &ServerName, sources: &[PullSource]) -> 
 }
 
 impl Refers for Point {
-    ghost use Rattle.cm_topo.specs.SecondPass.{point_refers};
-
     ghost refers = { point_refers };
 
     fn trouble(&self, known: &Known, entry: usize) -> Option<Trouble> {
@@ -214,40 +196,36 @@ impl Refers for Point {
 }
 
 impl Refers for PointGroup {
-    ghost use Rattle.cm_topo.specs.SecondPass.{point_group_refers};
-
     ghost refers = { point_group_refers };
 
     fn trouble(&self, known: &Known, entry: usize) -> Option<Trouble> {
         if known.point_groups.has_before(entry, &self.name) {
             return Some(Trouble::Broken(SAME_NAME));
         }
-        missing_point(&known.points, self.members.items())
+        broken_if(lack(&known.points, self.members.items()), NO_SUCH_POINT)
     }
 }
 
 impl Refers for Peer {
-    ghost use Rattle.cm_topo.specs.SecondPass.{peer_refers};
-
     ghost refers = { peer_refers };
 
     fn trouble(&self, known: &Known, entry: usize) -> Option<Trouble> {
-        if known.peers.has_before(entry, &self.name) {
-            return Some(Trouble::Broken(SAME_NAME));
-        }
-        None
+        broken_if(known.peers.has_before(entry, &self.name), SAME_NAME)
     }
 }
 
 /// The first fault of the names in boundaries, groups and relations.
-fn groups_fault(known: &Known, text: &GroupsText) -> Option<Placed>
-    requires { AreFewGroups text.now }
+fn groups_fault(known: &Known, text: &GroupsText, held: &[List<Boundary>]) -> Option<Placed>
+    requires names { known.now.boundaries ≡ names_of_rows text.now.boundaries }
+    requires held { held.now ≡ map (λ each. held_by text.now.boundaries each) text.now.groups }
+    requires few { AreFewGroups text.now }
     ensures { first (groups_refer known.now text.now) ≡ result }
 {
-    if let Some(fault) = part_fault(known, 1, text.boundaries.items()) {
+    let rows = text.boundaries.items();
+    if let Some(fault) = part_fault(known, 1, rows) {
         return Some(fault);
     }
-    if let Some(fault) = part_fault(known, 2, text.groups.items()) {
+    if let Some(fault) = group_faults(known, rows, text.groups.items(), held) {
         return Some(fault);
     }
     relations_fault(known, text.groups.items())
@@ -267,17 +245,26 @@ fn servers_fault(known: &Known, text: &ServersText) -> Option<Placed>
     if let Some(fault) = part_fault(known, 6, text.peers.items()) {
         return Some(fault);
     }
-    let trouble = missing_point(&known.points, text.default_points.items())?;
+    let trouble = broken_if(
+        lack(&known.points, text.default_points.items()),
+        NO_SUCH_POINT,
+    )?;
     Some(trouble.at(7, 0))
 }
 
-/// The first fault of the second pass, by the names that there are.
-pub(crate) fn second_pass_fault(known: &Known, text: &TopologyText) -> Option<Placed>
+/// The first fault of the second pass, by the names that there are and the boundaries that were found for each group.
+pub(crate) fn second_pass_fault(
+    known: &Known,
+    text: &TopologyText,
+    held: &[List<Boundary>],
+) -> Option<Placed>
+    requires known { known.now ≡ known_of text.now }
+    requires held { held.now ≡ map (λ each. held_by text.now.sites.boundaries each) text.now.sites.groups }
     requires sites { AreFewGroups text.now.sites }
     requires servers { AreFewServers text.now.servers }
     ensures { first (refers known.now text.now) ≡ result }
 {
-    if let Some(fault) = groups_fault(known, &text.sites) {
+    if let Some(fault) = groups_fault(known, &text.sites, held) {
         return Some(fault);
     }
     servers_fault(known, &text.servers)

@@ -2,7 +2,7 @@ use Rattle.std.proofs.Common.{All, IfSome, ◌≡◌, ◌≤◌, ◌++◌, drop,
 use Rattle.toml.specs.View.{view}
 use Rattle.cm_topo.specs.Entries.{rows_from}
 use Rattle.cm_topo.specs.Troubles.{result_map}
-use Rattle.cm_topo.proofs.entries.rows_of.Given as goal
+use Rattle.cm_topo.proofs.entries.add_rows.Given as goal
 
 abbrev pub invariant-loop-number : goal.invariant-loop-number
 invariant-loop-number g l = record {

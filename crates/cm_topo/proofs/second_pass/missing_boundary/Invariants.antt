@@ -1,8 +1,0 @@
-use Rattle.std.proofs.Common.{◌≡◌, drop}
-use Rattle.cm_topo.specs.Rules.{no_such_boundary}
-use Rattle.cm_topo.specs.SecondPass.{missing}
-use Rattle.cm_topo.specs.Troubles.{first}
-use Rattle.cm_topo.proofs.second_pass.missing_boundary.Given as goal
-
-abbrev pub invariant-loop-name : goal.invariant-loop-name
-invariant-loop-name l = first (missing no_such_boundary l.boundaries l.wanted) ≡ first (missing no_such_boundary l.boundaries (drop l.name-index l.wanted))
