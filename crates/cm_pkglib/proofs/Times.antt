@@ -1,5 +1,5 @@
 -- Counts and seals of hashes.
-use Rattle.std.proofs.Common.{◌≡◌, ℕ, ◌+◌, ◌-◌, ◌<◌, ◌≤◌, Bool, true, false, cond, ◌==◌, List, [], ◌∷◌, ◌++◌, length, take, get_or, sum_by, refl, ap, sym, subst, ◌∙◌, arith, Option, None, Some, Result, Ok, Err, OnOk, OnErr}
+use Rattle.std.proofs.Common.{◌≡◌, ℕ, ◌+◌, ◌-◌, ◌<◌, ◌≤◌, Bool, true, false, cond, ◌==◌, List, [], ◌∷◌, ◌++◌, length, map, take, get_or, sum_by, refl, ap, sym, subst, ◌∙◌, arith, Option, None, Some, Result, Ok, Err, OnOk, OnErr}
 use Rattle.std.specs.Ordering.{is_eq}
 use Rattle.std.specs.Str.{bytes_eq}
 use Rattle.std.proofs.lemmas.Bool.{and_parts, eqb-true}
@@ -8,8 +8,12 @@ use Rattle.std.proofs.lemmas.List.Sums.{count_by_more_yes, sum_by-take-le, sum_b
 use Rattle.std.proofs.lemmas.Map.Text.{is_eq-slice_cmp}
 use Rattle.cm_base.specs.declared.hash.Hash.{Hash}
 use Rattle.cm_tree.specs.declared.entry.Entry.{Entry}
+use Rattle.cm_pkglib.specs.declared.counts.Seal.{Seal}
 use Rattle.cm_pkglib.specs.declared.counts.Named.{Named}
-use Rattle.cm_pkglib.specs.Counts.{hash_cmp, count_in, seal_in, seal_kept, times}
+use Rattle.std.specs.BTreeMap.{is_at}
+use Rattle.std.specs.Map.{lookup}
+use Rattle.cm_pkglib.specs.declared.counts.Counts.{Counts}
+use Rattle.cm_pkglib.specs.Counts.{sealed_of, seals_in, seal_there, seal_at, hash_cmp, count_in, seal_in, seal_kept, times}
 
 bytes_same : (xs ys : List ℕ) → bytes_eq xs ys ≡ true → xs ≡ ys
 bytes_same [] [] e = refl
@@ -36,14 +40,14 @@ seal_own o =
       | false ↦ λ f. refl
     ] refl
 
-pub seal_more : (count : ℕ) (seal : Option ℕ) → 1 ≤ count → seal ≡ seal_kept count seal
+pub seal_more : (count : ℕ) (seal : Option Seal) → 1 ≤ count → seal ≡ seal_kept count seal
 seal_more count seal some =
     elim (count == 0) as (λ b. count == 0 ≡ b → seal ≡ cond b None seal) [
       | true ↦ λ t. let e = eqb-true count 0 t in absurd (omega arith)
       | false ↦ λ f. refl
     ] refl
 
-pub seal_twice : (less more : ℕ) (seal : Option ℕ) → less ≤ more → seal_kept less (seal_kept more seal) ≡ seal_kept less seal
+pub seal_twice : (less more : ℕ) (seal : Option Seal) → less ≤ more → seal_kept less (seal_kept more seal) ≡ seal_kept less seal
 seal_twice less more seal l =
     elim (more == 0) as (λ b. more == 0 ≡ b → seal_kept less (cond b None seal) ≡ seal_kept less seal) [
       | true ↦ λ t.
@@ -96,8 +100,8 @@ seals_fall old hash other new entry s e =
     ∙ ap (λ n. seal_kept n (seal_in (old other))) (sym (changed count_in hash other (old other) new entry e))
 
 -- one hash is sealed, and its count stays
-pub sealed_there : (old : Hash → Option Named) (hash other : Hash) (new entry : Option Named) (size : ℕ) → seal_in entry ≡ Some size → new ≡ cond (is_eq (hash_cmp hash other)) entry (old other) → seal_in new ≡ cond (bytes_eq hash.0 other.0) (Some size) (seal_in (old other))
-sealed_there old hash other new entry size s e =
+pub sealed_there : (old : Hash → Option Named) (hash other : Hash) (new entry : Option Named) (seal : Seal) → seal_in entry ≡ Some seal → new ≡ cond (is_eq (hash_cmp hash other)) entry (old other) → seal_in new ≡ cond (bytes_eq hash.0 other.0) (Some seal) (seal_in (old other))
+sealed_there old hash other new entry seal s e =
     changed seal_in hash other (old other) new entry e
     ∙ ap (λ o. cond (bytes_eq hash.0 other.0) o (seal_in (old other))) s
 
@@ -127,3 +131,16 @@ one_less hash entries front back old new e f = omega (arith, e, f, sum_by-cons (
 pub on_ok : {T E : Type 0} (r : Result T E) (P Q : Type 0) → (P → Q) → OnOk r P → OnOk r Q
 on_ok (Ok x) P Q f p = f p
 on_ok (Err x) P Q f p = tt
+
+-- a list of seals tells those of the counts
+seal_listed : (hash : Hash) (es : List (Hash × Named)) → seal_there (lookup (is_at (hash_cmp hash)) (map (λ (e : Hash × Named). (e.0, e.1.sealed)) es)) ≡ seal_in (lookup (is_at (hash_cmp hash)) es)
+seal_listed hash [] = refl
+seal_listed hash (e ∷ es) = by (is_at (hash_cmp hash) e.0) (seal_listed hash es)
+  where
+    by : (b : Bool) → seal_there (lookup (is_at (hash_cmp hash)) (map (λ (e : Hash × Named). (e.0, e.1.sealed)) es)) ≡ seal_in (lookup (is_at (hash_cmp hash)) es)
+        → seal_there (cond b (Some e.1.sealed) (lookup (is_at (hash_cmp hash)) (map (λ (e : Hash × Named). (e.0, e.1.sealed)) es))) ≡ seal_in (cond b (Some e.1) (lookup (is_at (hash_cmp hash)) es))
+    by true rest = refl
+    by false rest = rest
+
+pub seals_are : (counts : Counts) → (let f : Hash → Option Seal = λ hash. sealed_of counts hash in f) ≡ (λ hash. seal_at (seals_in counts) hash)
+seals_are counts = λ i hash. sym (seal_listed hash counts.hashes.entries) i

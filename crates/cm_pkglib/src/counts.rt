@@ -7,16 +7,23 @@ use cm_tree::{Entry, Manifest};
 use std::alloc::Global;
 use std::collections::BTreeMap;
 
+/// What is known of the file of a sealed hash: the size in bytes that it was sealed with, and whether that was tested since the
+/// library was opened.
+#[derive(Clone, Copy, Debug, PartialEq, Eq)]
+pub struct Seal {
+    pub size: u32,
+    pub since: bool,
+}
+
 /// A hash that entries name.
 #[derive(Clone, Copy)]
 struct Named {
     count: u32,
-    // in bytes
-    sealed: Option<u32>,
+    sealed: Option<Seal>,
     ghost some: { 1 ≤ count },
 }
 
-/// How often each hash is named by the entries of manifests, and the size in bytes that it is sealed with. An entry of a map
+/// How often each hash is named by the entries of manifests, and its seal. An entry of a map
 /// holds both for each hash that is named, so that only [`Counts::add`] takes memory. Two paths of one hash count twice.
 #[derive(Drop)]
 pub struct Counts {
@@ -55,8 +62,8 @@ impl Counts {
         }
     }
 
-    /// The size in bytes that the hash is sealed with. None exactly where it is not sealed.
-    pub fn sealed(&self, hash: Hash) -> Option<u32>
+    /// The seal of a hash. None exactly where it is not sealed.
+    pub fn sealed(&self, hash: Hash) -> Option<Seal>
         ensures { result ≡ sealed_of self.now hash }
     {
         match self.named(hash) {
@@ -138,14 +145,14 @@ impl Counts {
         self.take_each(manifest.entries())
     }
 
-    /// Seals a hash that is named, with a size in bytes.
-    pub fn seal(&mut self, hash: Hash, size: u32)
+    /// Seals a hash that is named.
+    pub fn seal(&mut self, hash: Hash, seal: Seal)
         requires { 1 ≤ count_of self.old hash }
         ensures counts { (other : Hash) → count_of self.new other ≡ count_of self.old other }
-        ensures seals { (other : Hash) → sealed_of self.new other ≡ (if bytes_eq hash.0 other.0 then Some size else sealed_of self.old other) }
+        ensures seals { (other : Hash) → sealed_of self.new other ≡ (if bytes_eq hash.0 other.0 then Some seal else sealed_of self.old other) }
     {
         let count = self.of(hash);
-        let sealed = Some(size);
+        let sealed = Some(seal);
         let _sealed = self.hashes.insert(hash, Named { count, sealed });
     }
 }

@@ -13,7 +13,7 @@ mod rows;
 mod search;
 
 pub use change::Change;
-pub use counts::Counts;
+pub use counts::{Counts, Seal};
 pub use fault::RowFault;
 pub use laws::{
     records_are_read, replay_goes_in_parts, replay_stays_valid, sealed_are_named, spellings_are_own,

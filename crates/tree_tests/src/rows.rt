@@ -2,7 +2,7 @@
 ghost use Rattle.std.specs.Prelude.{◌<◌};
 
 use cm_base::{Hash, JobId, Memory, PackageId, Version};
-use cm_pkglib::{Change, Counts, PkgRow, RowFault, Rows};
+use cm_pkglib::{Change, Counts, PkgRow, RowFault, Rows, Seal};
 use cm_tree::Manifest;
 use std::alloc::Global;
 use std::test::Fail;
@@ -366,13 +366,17 @@ fn counts_are_counted(rt: HostRuntime) -> Result<(), Fail> {
     counts.add(&manifest)?;
     assert!(rt; counts.of(one) == 2);
     assert!(rt; counts.sealed(one).is_none());
-    counts.seal(one, 7);
+    let seal = Seal {
+        size: 7,
+        since: true,
+    };
+    counts.seal(one, seal);
     counts.add(&manifest)?;
     assert!(rt; counts.of(one) == 4);
-    assert!(rt; counts.sealed(one) == Some(7));
+    assert!(rt; counts.sealed(one) == Some(seal));
     counts.take(&manifest);
     assert!(rt; counts.of(two) == 1);
-    assert!(rt; counts.sealed(one) == Some(7));
+    assert!(rt; counts.sealed(one) == Some(seal));
     counts.take(&manifest);
     assert!(rt; counts.of(one) == 0);
     assert!(rt; counts.sealed(one).is_none());

@@ -12,4 +12,4 @@ returns-clause-counts c = λ other.
 pub returns-clause-seals : goal.returns-clause-seals
 returns-clause-seals c = λ other.
     let updates = ok_since c.insert-sealed.result _ _ c.insert-sealed.ensures.updates c.insert-sealed.ensures.absent (is_there _ c.requires) in
-    sealed_there (λ h. get hash_cmp c.args.self.now.hashes h) c.args.hash other _ _ c.args.size refl (updates.0 other)
+    sealed_there (λ h. get hash_cmp c.args.self.now.hashes h) c.args.hash other _ _ c.args.seal refl (updates.0 other)
