@@ -6,11 +6,14 @@ use Rattle.std.specs.Ordering.{nat_cmp, is_lt, ordering_then}
 use Rattle.std.specs.Cmp.Lexicographic.{slice_cmp}
 use Rattle.std.specs.BTreeMap.{BTreeMap, get}
 use Rattle.cm_pkglib.specs.declared.row.PkgRow.{PkgRow}
+use Rattle.cm_pkglib.specs.declared.change.Change.{Change}
+use Rattle.cm_pkglib.specs.declared.change.Change.TheVariants.{Opened, Done, Dropped as DroppedRecord, Removed as RemovedRecord}
 use Rattle.cm_pkglib.specs.Rows.{Rows, is_of}
 use Rattle.cm_tree.specs.declared.entry.Entry.{Entry}
 use Rattle.cm_state.specs.declared.row.VersionRow.{VersionRow}
 use Rattle.cm_state.specs.declared.row.JobRow.{JobRow}
 use Rattle.cm_state.specs.State.{Held, State, held_of, version_rows, job_rows}
+use Rattle.cm_state.specs.Changes.{StateChange, Begun, Finished, Dropped, Removed, record_of}
 
 -- a row with the manifest that is found for its package and version
 abbrev pub held_with : (List ℕ → ℕ → List Entry) → PkgRow → Held
@@ -98,3 +101,27 @@ pub record IsInMemory (memory : InMemory) (kept : Bool) (rows_room : ℕ) (versi
 -- the told versions without one
 abbrev pub without_told : List ℕ → ℕ → List VersionRow → List VersionRow
 without_told id version rows = filter (λ (row : VersionRow). not (bytes_eq row.package id && row.version == version)) rows
+
+-- the manifest for which memory is taken, or the empty one
+abbrev pub taken_manifest : Option Held → List Entry
+taken_manifest None = []
+taken_manifest (Some held) = held.manifest
+
+-- the change that a record says: a job begins with the manifest for which memory is taken
+abbrev pub change_in : Option Held → Change → StateChange
+change_in taken (Opened job id version entries size hash) = Begun job id version (taken_manifest taken)
+change_in taken (Done job) = Finished job
+change_in taken (DroppedRecord job) = Dropped job
+change_in taken (RemovedRecord id version) = Removed id version
+
+-- the version of a job that begins is the one for which memory is taken
+abbrev pub NamesTaken : Option Held → Change → Type 0
+NamesTaken taken (Opened job id version entries size hash) = taken ≡ Some (held_of id version (taken_manifest taken))
+NamesTaken taken (Done job) = Unit {0}
+NamesTaken taken (DroppedRecord job) = Unit {0}
+NamesTaken taken (RemovedRecord id version) = Unit {0}
+
+-- the record is that of its change, for which memory is taken
+pub record IsTakenFor (taken : Option Held) (change : Change) : Type 0 where
+  pub says : record_of (change_in taken change) ≡ change
+  pub names : NamesTaken taken change

@@ -1,12 +1,13 @@
 //! What a library keeps in memory, and how it changes.
-ghost use Rattle.std.specs.Prelude.{◌≡◌, ◌+◌, ◌<◌, ◌≤◌, None, Some, List, ℕ, length, IfOk, IfSome, OnErr, OnOk, option_map, vec_len, vec_capacity};
+ghost use Rattle.std.specs.Prelude.{◌≡◌, ◌+◌, ◌<◌, ◌≤◌, None, Some, List, ℕ, length, IfOk, IfSome, OnErr, OnOk, [], option_map, unwrap_or, vec_len, vec_capacity};
 ghost use Rattle.std.specs.Result.{result_err};
 ghost use Rattle.cm_pkglib.specs.declared.change.Change.TheVariants.{Done as done_change, Dropped as dropped_change, Removed as removed_change};
-ghost use Rattle.cm_pkglib.specs.Rows.{last_of, fault_of, opened_fault};
+ghost use Rattle.cm_pkglib.specs.Rows.{last_of, fault_of, opened_fault, row_of_job};
 ghost use Rattle.cm_pkglib.specs.Valid.{AreValid};
 ghost use Rattle.cm_state.specs.Changes.{Begun, Finished, Dropped, Removed, changed};
 ghost use Rattle.cm_state.specs.State.{held_of, rows_of, version_rows, job_rows, count_in, entries_in};
-ghost use Rattle.cm_contents.specs.Contents.{state_with, manifest_in_map, PutsManifest};
+ghost use Rattle.cm_contents.specs.Contents.{state_with, manifest_in_map, PutsManifest, change_in, IsTakenFor};
+ghost use Rattle.cm_contents.specs.Seals.{job_manifest, version_manifest};
 
 use crate::told::{drop_told, job_told, jobs_told, put_finished, take_told, versions_told};
 use cm_base::{Hash, JobId, Memory, PackageId, Version};
@@ -121,6 +122,18 @@ fn row_for(manifests: &Manifests, key: (PackageId, Version), size: u32, hash: Ha
     }
 }
 
+// The row of an unfinished job.
+fn row_of_job(jobs: &[(JobId, PkgRow)], job: JobId) -> Option<PkgRow>
+    ensures { result ≡ row_of_job job jobs.now }
+{
+    for unfinished in jobs {
+        if unfinished.0 == job {
+            return Some(unfinished.1);
+        }
+    }
+    None
+}
+
 impl Contents {
     /// What rows and their manifests make.
     pub fn of(alloc: Global, rows: Rows, manifests: Manifests) -> Result<Contents, Memory>
@@ -202,6 +215,26 @@ impl Contents {
         match self.check(&change) {
             Ok(()) => None,
             Err(fault) => Some(fault),
+        }
+    }
+
+    // The manifest of an unfinished job. None only where that has no entries, or there is no such job.
+    pub(crate) fn job_manifest(&self, job: JobId) -> Option<&Manifest>
+        ensures { unwrap_or (option_map (λ manifest. manifest.now) result) [] ≡ job_manifest job self.now.state }
+    {
+        match row_of_job(self.rows.jobs(), job) {
+            Some(row) => self.manifests.get(&(row.package, row.version)),
+            None => None,
+        }
+    }
+
+    // The manifest of a version. None only where that has no entries, or there is no such version.
+    pub(crate) fn version_manifest(&self, package: PackageId, version: Version) -> Option<&Manifest>
+        ensures { unwrap_or (option_map (λ manifest. manifest.now) result) [] ≡ version_manifest «package» version self.now.state }
+    {
+        match self.rows.check(&Change::Removed { package, version }) {
+            Ok(()) => self.manifests.get(&(package, version)),
+            Err(_) => None,
         }
     }
 
@@ -291,5 +324,26 @@ impl Contents {
     {
         let _applied = self.rows.apply(&Change::Removed { package, version });
         drop_told(&mut self.versions, package, version);
+    }
+
+    /// Makes a change that the rows allow. It takes no memory: a job begins for which memory is taken.
+    pub fn apply(&mut self, change: &Change)
+        requires free { fault_of (rows_of self.old.state) change.now ≡ None }
+        requires taken { IsTakenFor self.old.taken change.now }
+        ensures { self.new.state ≡ changed (change_in self.old.taken change.now) self.old.state }
+    {
+        match *change {
+            Change::Opened {
+                job: _,
+                package: _,
+                version: _,
+                entries: _,
+                size,
+                hash,
+            } => self.begin(size, hash),
+            Change::Done { job } => self.finish(job),
+            Change::Dropped { job } => self.drop_job(job),
+            Change::Removed { package, version } => self.remove(package, version),
+        }
     }
 }

@@ -2,8 +2,10 @@
 #![tactic(auto)]
 
 mod contents;
+mod counting;
 mod planning;
 mod told;
 
 pub use contents::{Contents, Manifests};
+pub use counting::{count_all, count_taken, make, not_stored, seal, uncount_taken};
 pub use planning::{named_hashes, plan_of};

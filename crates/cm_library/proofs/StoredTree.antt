@@ -1,39 +1,39 @@
 -- The files of a tree are stored one after another.
-use Rattle.std.proofs.Common.{◌≡◌, ◌⊎◌, inl, inr, ℕ, zero, suc, ◌+◌, ◌<◌, take, get_or, Bool, true, false, List, [], ◌∷◌, ◌++◌, length, refl, sym, ◌∙◌, ap, subst, arith, eq-eqb}
-use Rattle.std.specs.Prelude.{Option, None, Some, is_some, cond, map, find, slice_get, option_map, Contains, not, Err, ◌==◌}
+use Rattle.std.proofs.Common.{◌≡◌, ◌⊎◌, inl, inr, ℕ, zero, suc, ◌+◌, ◌<◌, take, get_or, Bool, true, false, List, [], ◌∷◌, ◌++◌, length, refl, sym, ◌∙◌, ap, subst, arith, add-one}
+use Rattle.std.specs.Prelude.{◌≢◌, Option, None, Some, cond, map, slice_get, Contains, ◌||◌}
 use Rattle.std.specs.List.{AllByRecursion}
 use Rattle.std.specs.Str.{bytes_eq}
+use Rattle.std.proofs.Math.Seq.{take-suc}
 use Rattle.std.proofs.lemmas.Bool.{false≢true}
 use Rattle.std.proofs.lemmas.List.{length-map}
+use Rattle.std.proofs.lemmas.List.Elements.{Contains-append_left, Contains-append_right}
 use Rattle.std.proofs.lemmas.Option.{same_Some, none-some}
 use Rattle.std.proofs.lemmas.Slice.Eq.{bytes_eq-Decides}
 use Rattle.sha2.specs.Sha256.{sha256}
 use Rattle.cm_base.specs.declared.hash.Hash.{Hash}
 use Rattle.cm_disk.specs.Disk.{Files}
+use Rattle.cm_pkglib.specs.declared.counts.Seal.{Seal}
+use Rattle.cm_pkglib.specs.Counts.{seal_at}
 use Rattle.cm_pkglib.proofs.Among.{All-map}
 use Rattle.cm_tree.specs.declared.entry.Entry.{Entry}
 use Rattle.cm_tree.specs.Trees.{File, entry_of, manifest_of}
 use Rattle.cm_filelib.specs.Places.{file_place}
-use Rattle.cm_pkglib.specs.declared.row.PkgRow.{PkgRow}
-use Rattle.cm_pkglib.specs.declared.change.Change.TheVariants.{Done}
-use Rattle.cm_pkglib.specs.declared.fault.RowFault.TheVariants.{NoJob}
-use Rattle.cm_pkglib.specs.Rows.{Rows, fault_of, when}
-use Rattle.cm_state.specs.declared.fault.LibFault.{LibFault}
-use Rattle.cm_state.specs.declared.fault.LibFault.TheVariants.{Disk}
-use Rattle.cm_state.specs.Faults.{finish_fault, spent_or, RefusesOr}
-use Rattle.cm_state.specs.State.{State, held_of, rows_of}
+use Rattle.cm_state.specs.State.{Held, State, held_of}
 use Rattle.cm_state.specs.Changes.{Begun, changed}
-use Rattle.cm_state.proofs.Loaded.{rows_begun}
 use Rattle.cm_tree.specs.declared.gathered.GatheredFile.{GatheredFile}
 use Rattle.cm_tree.specs.GatheredFiles.{file_of, files_of}
 use Rattle.cm_state.specs.Adding.{Told, KeepsStore, KeepsFiles, IsStored, StoresPlan, AddsTree, Puts}
-use Rattle.cm_state.specs.Needed.{is_named}
+use Rattle.cm_state.specs.Needed.{has_hash, is_named, is_needed}
 use Rattle.cm_contents.specs.Plans.{IsFresh, IsPlanned, IsPlan}
+use Rattle.cm_contents.specs.Seals.{if_needed, SealsVersions}
 use Rattle.cm_state.proofs.Elsewhere.{file_names}
 use Rattle.cm_state.proofs.Digests.{sha256_bytes}
 use Rattle.cm_state.proofs.Lists.{all_next}
 use Rattle.cm_contents.proofs.Planned.{get_at}
-use Rattle.cm_state.proofs.Members.{first_member, later_member, at_member}
+use Rattle.cm_state.proofs.Members.{first_member, later_member, each_member, at_member, any_member}
+use Rattle.cm_library.specs.Calls.{KeepsNeeded}
+use Rattle.cm_library.specs.Kept.{Seen}
+use Rattle.cm_library.specs.Storing.{hash_of_file, StoresOrHas}
 
 same_hash : (a b : List ℕ) → file_place (sha256 a) ≡ file_place (sha256 b) → sha256 a ≡ sha256 b
 same_hash a b same = file_names (sha256 a) (sha256 b) (sha256_bytes a) (sha256_bytes b) same
@@ -86,21 +86,27 @@ new_stored tree mid now new k at puts file is =
     let same : new ≡ file = same_Some new file (sym at ∙ is) in
     subst (λ (f : File). IsStored tree now f) same (record { other = new; among = member_at tree k new at; same_hash = refl; there = puts.here })
 
+-- a file of the same hash is stored too
+stored_as : (tree : List File) (mid now : Files) (one file : File) → sha256 one.bytes ≡ sha256 file.bytes → KeepsStore mid now → IsStored tree mid one → IsStored tree now file
+stored_as tree mid now one file same keeps s = record {
+  other = s.other;
+  among = s.among;
+  same_hash = s.same_hash ∙ same;
+  there = keeps (sha256 file.bytes) ∙ ap (λ (h : List ℕ). mid (file_place h)) (sym same) ∙ s.there;
+}
+
+-- so is one whose hash is to be stored
+planned_stored : (tree : List File) (plan : List ℕ) (mid now : Files) (file : File) → AllByRecursion (IsDone tree mid) plan → KeepsStore mid now → IsPlanned (manifest_of tree) plan (hash_of_file file) → IsStored tree now file
+planned_stored tree plan mid now file stored keeps planned =
+    let e = entry_at tree planned.k planned.entry planned.at in
+    stored_as tree mid now e.0 file (ap (λ (n : Entry). n.hash.0) (sym e.2) ∙ ap (λ (h : Hash). h.0) planned.same) keeps (at_member (IsDone tree mid) plan stored planned.k planned.among e.0 e.1)
+
 -- a file of the tree, by the plan
 one_done : (state : State) (tree : List File) (plan : List ℕ) (was : Hash → Bool) (f2 f3 : Files) → ((q : Hash) → was q ≡ is_named q.0 state) → AllByRecursion (IsDone tree f2) plan → KeepsStore f2 f3
     → (file : File) → (was (entry_of file).hash ≡ true) ⊎ IsPlanned (manifest_of tree) plan (entry_of file).hash → (is_named (sha256 file.bytes) state ≡ true) ⊎ IsStored tree f3 file
 one_done state tree plan was f2 f3 known stored last file d = elim d [
   | inl named ↦ inl (sym (known (entry_of file).hash) ∙ named)
-  | inr planned ↦
-      let e = entry_at tree planned.k planned.entry planned.at in
-      let s = at_member (IsDone tree f2) plan stored planned.k planned.among e.0 e.1 in
-      let same : sha256 e.0.bytes ≡ sha256 file.bytes = ap (λ (n : Entry). n.hash.0) (sym e.2) ∙ ap (λ (h : Hash). h.0) planned.same in
-      inr (record {
-        other = s.other;
-        among = s.among;
-        same_hash = s.same_hash ∙ same;
-        there = last (sha256 file.bytes) ∙ ap (λ (h : List ℕ). f2 (file_place h)) (sym same) ∙ s.there;
-      })
+  | inr planned ↦ inr (planned_stored tree plan f2 f3 file stored last planned)
 ]
 
 all_done : (state : State) (tree : List File) (plan : List ℕ) (was : Hash → Bool) (f2 f3 : Files) → ((q : Hash) → was q ≡ is_named q.0 state) → AllByRecursion (IsDone tree f2) plan → KeepsStore f2 f3
@@ -138,6 +144,18 @@ pair_at files entries at g e is lt g_is e_is =
       entry = same_Some e (entry_of (file_of g)) (sym (get_at entries at e lt e_is) ∙ ap (λ (es : List Entry). slice_get es at) is ∙ entry);
     }
 
+-- the entry by the number of a file is that of the file
+pub entry_is : (entries : List Entry) (tree : List File) (at : ℕ) (e : Entry) (file : File) → entries ≡ manifest_of tree → at < length entries → e ≡ get_or entries at e → slice_get tree at ≡ Some file → e ≡ entry_of file
+entry_is entries tree at e file is lt e_is file_is = same_Some e (entry_of file) (sym (get_at entries at e lt e_is) ∙ ap (λ (es : List Entry). slice_get es at) is ∙ get_map entry_of tree at file file_is)
+
+-- what is sealed once a hash was
+pub seal_next : (old new : Hash → Option Seal) (hash other : Hash) (seal : Seal) (here : List ℕ) → hash.0 ≡ here → new other ≡ cond (bytes_eq hash.0 other.0) (Some seal) (old other) → new other ≢ None → (old other ≢ None) ⊎ (other.0 ≡ here)
+seal_next old new hash other seal here is seals sealed = by (bytes_eq hash.0 other.0) refl
+  where
+    by : (b : Bool) → bytes_eq hash.0 other.0 ≡ b → (old other ≢ None) ⊎ (other.0 ≡ here)
+    by true same = inr (sym ((bytes_eq-Decides hash.0 other.0).0 same) ∙ is)
+    by false differs = inl (λ none. sealed (seals ∙ ap (λ (b : Bool). cond b (Some seal) (old other)) differs ∙ none))
+
 -- a file that is told to be stored, under other names
 pub told_as : (place bytes p b : List ℕ) (old new : Option Files) → place ≡ p → bytes ≡ b → Told (Puts place bytes) old new → Told (Puts p b) old new
 told_as place bytes p b old new e f told =
@@ -165,11 +183,69 @@ pub none_stored : (state : State) (tree : List File) (files : Files) → StoresP
 none_stored state tree files = record { keeps = λ bytes named. refl; stored = tt }
 
 -- the next number of the plan
-pub plan_step : (state : State) (tree : List File) (plan : List ℕ) (i k : ℕ) (files mid now : Files) → i < length plan → k ≡ get_or plan i k → (t : IsToStore state tree k)
+plan_step : (state : State) (tree : List File) (plan : List ℕ) (i k : ℕ) (files mid now : Files) → i < length plan → k ≡ get_or plan i k → (t : IsToStore state tree k)
     → Puts (file_place (sha256 t.file.bytes)) t.file.bytes mid now → StoresPlan state tree (take i plan) files mid → StoresPlan state tree (take (i + 1) plan) files now
 plan_step state tree plan i k files mid now lt is t p s =
     let before = plan_next state tree (take i plan) files mid now t.file (member_at tree k t.file t.at) t.fresh p s in
     record { keeps = before.keeps; stored = all_next (IsDone tree now) plan i k lt is before.stored (new_stored tree mid now t.file k t.at p) }
+
+-- the numbers so far, and the next
+take_more : (plan : List ℕ) (i k : ℕ) → i < length plan → k ≡ get_or plan i k → take i plan ++ k ∷ [] ≡ take (i + 1) plan
+take_more plan i k lt is = ap (λ y. take i plan ++ y ∷ []) is ∙ sym (take-suc plan i k lt) ∙ ap (λ n. take n plan) (sym (add-one i))
+
+-- what is sealed is named by a version, or is of the plan
+abbrev pub SealsPlanned : (Hash → Option Seal) → State → List File → List ℕ → Type 0
+SealsPlanned seals state tree plan = (hash : Hash) → seals hash ≢ None → (is_named hash.0 state ≡ true) ⊎ IsPlanned (manifest_of tree) plan hash
+
+module _ (state : State) (tree : List File) (plan : List ℕ) (i k : ℕ) (lt : i < length plan) (is : k ≡ get_or plan i k) (t : IsToStore state tree k) where
+  -- the seals of the plan's files, with the next
+  seals_stay : (seals : Hash → Option Seal) → SealsPlanned seals state tree (take i plan) → SealsPlanned seals state tree (take (i + 1) plan)
+  seals_stay seals so_far hash sealed = elim (so_far hash sealed) [
+    | inl named ↦ inl named
+    | inr p ↦ inr (record { k = p.k; among = subst (λ (l : List ℕ). Contains l p.k) (take_more plan i k lt is) (Contains-append_left (take i plan) (k ∷ []) p.k p.among); entry = p.entry; at = p.at; same = p.same })
+  ]
+
+  seals_step : (old new : Hash → Option Seal) → SealsPlanned old state tree (take i plan) → ((other : Hash) → new other ≢ None → (old other ≢ None) ⊎ (other.0 ≡ sha256 t.file.bytes)) → SealsPlanned new state tree (take (i + 1) plan)
+  seals_step old new so_far seals hash sealed = elim (seals hash sealed) [
+    | inl before ↦ seals_stay old so_far hash before
+    | inr here ↦ inr (record {
+      k = k;
+      among = subst (λ (l : List ℕ). Contains l k) (take_more plan i k lt is) (Contains-append_right (take i plan) (k ∷ []) k (first_member k []));
+      entry = entry_of t.file;
+      at = get_map entry_of tree k t.file t.at;
+      same = ap (λ (h : List ℕ). let x : Hash = record { 0 = h } in x) (sym here);
+    })
+  ]
+
+  -- the hash of the next was sealed: an earlier number of the plan has it
+  plan_skip : (seals : Hash → Option Seal) (files mid : Files) → SealsPlanned seals state tree (take i plan) → seals (hash_of_file t.file) ≢ None → StoresPlan state tree (take i plan) files mid → StoresPlan state tree (take (i + 1) plan) files mid
+  plan_skip seals files mid so_far sealed s = elim (so_far (hash_of_file t.file) sealed) [
+    | inl named ↦ absurd (false≢true (sym t.fresh ∙ named))
+    | inr planned ↦ record {
+      keeps = s.keeps;
+      stored = all_next (IsDone tree mid) plan i k lt is s.stored (λ file at. subst (IsStored tree mid) (same_Some t.file file (sym t.at ∙ at)) (planned_stored tree (take i plan) mid mid t.file s.stored (λ hash. refl) planned));
+    }
+  ]
+
+  -- the next is stored or was
+  pub store_next : {D : Type 0} (reads : D → Option Files) (first : Option Files) (old new : Seen D) → StoresOrHas reads t.file old new
+      → Told (StoresPlan state tree (take i plan)) first (reads old.disk) → SealsPlanned (seal_at old.seals) state tree (take i plan)
+      → Told (StoresPlan state tree (take (i + 1) plan)) first (reads new.disk) × SealsPlanned (seal_at new.seals) state tree (take (i + 1) plan)
+  store_next {D} reads first old new either stored so_far = elim either [
+    | inl s ↦ (
+      λ x told.
+          let m = stored x told in
+          let n = s.put m.0 m.1 in
+          (n.0, n.1, plan_step state tree plan i k x m.0 n.0 lt is t n.2 m.2),
+      seals_step (seal_at old.seals) (seal_at new.seals) so_far s.seals,
+    )
+    | inr had ↦ subst (λ (seen : Seen D). Told (StoresPlan state tree (take (i + 1) plan)) first (reads seen.disk) × SealsPlanned (seal_at seen.seals) state tree (take (i + 1) plan)) (sym had.1) (
+      λ x told.
+          let m = stored x told in
+          (m.0, m.1, plan_skip (seal_at old.seals) x m.0 so_far had.0 m.2),
+      seals_stay (seal_at old.seals) so_far,
+    )
+  ]
 
 pub at_number : (P : ℕ → Type 0) (plan : List ℕ) (i k : ℕ) → i < length plan → k ≡ get_or plan i k → AllByRecursion P plan → P k
 at_number P plan i k lt is all = at_member P plan all k (member_at plan i k (get_at plan i k lt is))
@@ -180,21 +256,24 @@ get_any [] i d e lt = absurd (omega arith)
 get_any (x ∷ xs) zero d e lt = refl
 get_any (x ∷ xs) (suc i) d e lt = get_any xs i d e (omega arith)
 
--- a job that began may be finished
-some_last : {A B : Type 0} (f : A → B) (p : A → Bool) (xs : List A) (x : A) → p x ≡ true → is_some (option_map f (find p (xs ++ x ∷ []))) ≡ true
-some_last f p [] x is = ap (λ b. is_some (option_map f (cond b (Some x) None))) is
-some_last f p (y ∷ ys) x is = by (p y) (some_last f p ys x is)
-  where
-    by : (b : Bool) → is_some (option_map f (find p (ys ++ x ∷ []))) ≡ true → is_some (option_map f (cond b (Some y) (find p (ys ++ x ∷ [])))) ≡ true
-    by true rest = refl
-    by false rest = rest
+-- a job that began needs its entries
+either_true : (a b : Bool) → b ≡ true → (a || b) ≡ true
+either_true true b is = refl
+either_true false b is = is
 
-pub may_finish : (s : State) (job : ℕ) (id : List ℕ) (version : ℕ) (manifest : List Entry) → finish_fault (changed (Begun job id version manifest) s) job ≡ None
-may_finish s job id version manifest =
-    ap (λ (r : Rows). spent_or 0 (fault_of r (Done job))) (rows_begun s job id version manifest)
-    ∙ ap (λ (b : Bool). spent_or 0 (when (not b) NoJob)) (some_last (λ (u : ℕ × PkgRow). u.1) (λ (u : ℕ × PkgRow). u.0 == job) (rows_of s).jobs (job, (held_of id version manifest).row) (eq-eqb job job refl))
+pub begun_needed : (s : State) (job : ℕ) (id : List ℕ) (version : ℕ) (manifest : List Entry) → AllByRecursion (λ (e : Entry). is_needed e.hash.0 (changed (Begun job id version manifest) s) ≡ true) manifest
+begun_needed s job id version manifest =
+    let begun : ℕ × Held = (job, held_of id version manifest) in
+    each_member (λ (e : Entry). is_needed e.hash.0 (changed (Begun job id version manifest) s) ≡ true) manifest
+    (λ e among. either_true (is_named e.hash.0 s) _
+    (any_member (λ (u : ℕ × Held). has_hash e.hash.0 u.1.manifest) (s.jobs ++ begun ∷ []) begun (Contains-append_right s.jobs (begun ∷ []) begun (first_member begun []))
+    (any_member (λ (x : Entry). bytes_eq x.hash.0 e.hash.0) manifest e among ((bytes_eq-Decides e.hash.0 e.hash.0).1 refl))))
 
--- where nothing keeps it from its work, only memory or the disk does
-pub only_disk : (fault : LibFault) (o : Option LibFault) → o ≡ None → RefusesOr {T = Unit {0}} o (Err fault) → fault ≡ Disk
-only_disk fault None is r = r
-only_disk fault (Some other) is r = absurd (none-some other (sym is))
+-- the versions are the same, and so only their hashes are sealed
+none_kept : (needed : Bool) (seal : Option Seal) → seal ≡ None → if_needed needed seal ≡ None
+none_kept true seal none = none
+none_kept false seal none = refl
+
+pub begun_seals : (s t : State) (job : ℕ) (id : List ℕ) (version : ℕ) (manifest : List Entry) (old new : Hash → Option Seal) → t ≡ changed (Begun job id version manifest) s → KeepsNeeded t old new → SealsVersions old s → SealsVersions new t
+begun_seals s t job id version manifest old new is keeps only hash sealed =
+    ap (λ (u : State). is_named hash.0 u) is ∙ only hash (λ none. sealed (keeps hash ∙ none_kept (is_needed hash.0 t) (old hash) none))

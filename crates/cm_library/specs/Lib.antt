@@ -1,4 +1,6 @@
 pub mod Begins
+pub mod Calls
 pub mod Kept
 pub mod Loads
-pub mod Open
+pub mod Opening
+pub mod Storing

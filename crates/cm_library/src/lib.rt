@@ -2,8 +2,9 @@
 #![tactic(auto)]
 
 mod adding;
+mod beginning;
 mod commits;
-mod jobs;
+mod ending;
 mod library;
 mod loading;
 mod making;
@@ -11,10 +12,12 @@ mod manifests;
 mod opening;
 mod records;
 mod sealing;
+mod settling;
 mod storing;
 mod telling;
 
 pub use cm_log::CreateFault;
+pub use cm_pkglib::Change;
 pub use cm_state::{JobRow, LibFault, OpenFault, VersionRow};
 pub use cm_tree as tree;
 pub use library::Library;

@@ -5,6 +5,7 @@ ghost use Rattle.sha2.specs.Sha256.{sha256};
 ghost use Rattle.cm_base.specs.Causes.{HasCause};
 ghost use Rattle.cm_disk.specs.Disk.{File, put as put_at};
 ghost use Rattle.cm_filelib.specs.Places.{file_place};
+ghost use Rattle.cm_filelib.specs.Stored.{IsFileSure};
 
 use cm_base::Hash;
 use cm_disk::{Disk, DiskFault};
@@ -19,6 +20,7 @@ pub(crate) fn keep_file<D: Disk>(disk: &mut D, hash: Hash, bytes: &[u8]) -> Resu
     requires hash { sha256 bytes.now ≡ hash.0 }
     ensures made { OnOk result (ForSome (D.reads disk.old) (λ files. D.reads disk.new ≡ Some (put_at files (file_place hash.0) (Some bytes.now)))) }
     ensures silent { D.reads disk.old ≡ None → D.reads disk.new ≡ None }
+    ensures sure { OnOk result (ForSome (D.reads disk.new) (λ _. IsFileSure (D.may_leave disk.new) hash.0 (length bytes.now))) }
     ensures others { (q : List ℕ) (file : File) → q ≢ file_place hash.0 → D.may_leave disk.new q file → D.may_leave disk.old q file }
     ensures cause { HasCause (D.faults disk.old) (D.faults disk.new) result }
 {

@@ -1,4 +1,5 @@
 pub mod Begun
+pub mod Committed
 pub mod Digests
 pub mod Elsewhere
 pub mod ImagesOpen
@@ -12,6 +13,7 @@ pub mod OneState
 pub mod Opens
 pub mod Ready
 pub mod Replaying
+pub mod Rooms
 pub mod RunLaw
 pub mod Soundness
 pub mod Sounds

@@ -1,5 +1,5 @@
 -- Which files are no library, and which are an empty one.
-use Rattle.std.proofs.Common.{◌≡◌, ◌≢◌, ℕ, Bool, true, false, List, Option, None, Some, IsSome, refl, ◌∙◌, ap}
+use Rattle.std.proofs.Common.{◌≡◌, ◌≢◌, ℕ, Bool, true, false, List, None, Some, IsSome, refl, ◌∙◌, ap}
 use Rattle.cm_disk.specs.Disk.{File, Files}
 use Rattle.cm_log.specs.declared.shelf.Shelf.TheVariants.{PkgLib}
 use Rattle.cm_log.specs.declared.head.Choice.{Choice}

@@ -1,6 +1,6 @@
 -- A library is opened.
 use Rattle.std.proofs.Common.{◌≡◌, ℕ, Bool, true, false, List, sym, ◌∙◌, ap}
-use Rattle.std.specs.Prelude.{Result, Ok, Err}
+use Rattle.std.specs.Prelude.{Ok, Err}
 use Rattle.cm_disk.specs.Disk.{File, Files}
 use Rattle.cm_log.specs.declared.shelf.Shelf.TheVariants.{PkgLib}
 use Rattle.cm_log.specs.declared.position.LogReader.{LogReader}

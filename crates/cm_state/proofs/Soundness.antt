@@ -10,7 +10,7 @@ use Rattle.cm_pkglib.specs.Rows.{Rows, no_rows, is_of, is_before, with_row, with
 use Rattle.cm_pkglib.specs.Valid.{AreValid}
 use Rattle.cm_pkglib.proofs.Among.{All-append}
 use Rattle.cm_pkglib.proofs.Replays.{after_valid}
-use Rattle.cm_base.specs.Names.{is_code_byte, is_upper_hex}
+use Rattle.cm_base.specs.Names.{is_code_byte, is_upper_hex, is_package_id}
 use Rattle.cm_pkglib.specs.Changes.{IsChange}
 use Rattle.cm_state.specs.Sound.{AreSound, IsNamed, AreNamed, AreFit, NamesVersion}
 use Rattle.cm_state.proofs.Lists.{all_filter, found_one}
@@ -59,8 +59,11 @@ long_of : (a b c : Bool) → (a && b && c) ≡ true → a ≡ true
 long_of true b c is = refl
 long_of false b c is = absurd (cc)
 
+pub id_long : (id : List ℕ) → is_package_id id ≡ true → length id ≡ 8
+id_long id form = eqb-true (length id) 8 (long_of (length id == 8) (list_all is_code_byte (take 3 id)) (list_all is_upper_hex (drop 3 id)) form)
+
 pub names_of : (change : Change) → IsChange change → NamesVersion change
-names_of (Opened job id version entries size hash) ranges = (eqb-true (length id) 8 (long_of (length id == 8) (list_all is_code_byte (take 3 id)) (list_all is_upper_hex (drop 3 id)) ranges.1), ranges.2.1)
+names_of (Opened job id version entries size hash) ranges = (id_long id ranges.1, ranges.2.1)
 names_of (Done job) ranges = tt
 names_of (Dropped job) ranges = tt
 names_of (Removed id version) ranges = tt

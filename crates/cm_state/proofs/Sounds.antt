@@ -12,7 +12,7 @@ use Rattle.cm_pkglib.specs.Rows.{Rows, no_rows, fault_of, after, step}
 use Rattle.cm_pkglib.specs.Valid.{AreValid}
 use Rattle.cm_pkglib.proofs.Replays.{no_rows_valid, after_valid}
 use Rattle.cm_state.specs.State.{State}
-use Rattle.cm_state.specs.Look.{Opened, rows_after_body, rows_from, has_room, loaded, ended_or, look_at, look}
+use Rattle.cm_state.specs.Look.{Opened, rows_after_body, rows_from, ended_or, look_at, look}
 use Rattle.cm_state.specs.Sound.{AreSound, IsSound}
 use Rattle.cm_state.proofs.Loaded.{loaded_is}
 use Rattle.cm_state.proofs.Replaying.{rows_refused, ended_some, not_broken, then_some}

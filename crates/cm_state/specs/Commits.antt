@@ -1,6 +1,5 @@
 -- A change of a library while its record is added to the log.
-use Rattle.std.specs.Prelude.{◌≡◌, ℕ, ◌+◌, true, List, length, Option, None, Some}
-use Rattle.std.specs.List.{AllByRecursion}
+use Rattle.std.specs.Prelude.{◌≡◌, ℕ, ◌+◌, true, List, length, None, Some, IfSome}
 use Rattle.cm_disk.specs.Disk.{File, Files, Only}
 use Rattle.cm_log.specs.declared.shelf.Shelf.TheVariants.{PkgLib}
 use Rattle.cm_log.specs.declared.state.Log.{Log}
@@ -10,7 +9,7 @@ use Rattle.cm_pkglib.specs.Changes.{spelled, IsChange}
 use Rattle.cm_pkglib.specs.Rows.{fault_of}
 use Rattle.cm_tree.specs.Manifests.{spelling, IsManifest}
 use Rattle.cm_datalib.specs.Places.{manifest_place}
-use Rattle.cm_state.specs.State.{Held, State, rows_of}
+use Rattle.cm_state.specs.State.{State, rows_of, held_by_job}
 use Rattle.cm_state.specs.Changes.{StateChange, Begun, Finished, Dropped, Removed, record_of, changed}
 use Rattle.cm_state.specs.Look.{Opened, look, has_room}
 use Rattle.cm_state.specs.Sure.{AreFilesSure}
@@ -28,14 +27,10 @@ BringsManifest may_leave (Finished job) = Unit {0}
 BringsManifest may_leave (Dropped job) = Unit {0}
 BringsManifest may_leave (Removed id version) = Unit {0}
 
--- the files of a job are there, whatever a crash leaves
-abbrev pub IsJobSure : (List ℕ → File → Type 0) → ℕ → ℕ × Held → Type 0
-IsJobSure may_leave job u = u.0 ≡ job → AreFilesSure may_leave u.1
-
 -- the files of the version that a change brings are there, whatever a crash leaves
 abbrev pub BringsFiles : (List ℕ → File → Type 0) → State → StateChange → Type 0
 BringsFiles may_leave state (Begun job id version manifest) = Unit {0}
-BringsFiles may_leave state (Finished job) = AllByRecursion (IsJobSure may_leave job) state.jobs
+BringsFiles may_leave state (Finished job) = IfSome (held_by_job job state.jobs) (AreFilesSure may_leave)
 BringsFiles may_leave state (Dropped job) = Unit {0}
 BringsFiles may_leave state (Removed id version) = Unit {0}
 

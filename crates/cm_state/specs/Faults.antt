@@ -1,16 +1,16 @@
 -- Why the calls of a library refuse.
-use Rattle.std.specs.Prelude.{◌≡◌, ◌⊎◌, ℕ, ◌+◌, ◌-◌, ◌^◌, nat_le, nat_lt, List, length, Option, None, Some, Result, Err, IfErr, if◌then◌else◌}
+use Rattle.std.specs.Prelude.{◌≡◌, ◌⊎◌, ℕ, ◌+◌, ◌-◌, ◌^◌, nat_le, nat_lt, List, length, Option, None, Some, option_map, Result, Err, IfErr, if◌then◌else◌}
 use Rattle.cm_pkglib.specs.declared.fault.RowFault.{RowFault}
 use Rattle.cm_pkglib.specs.declared.fault.RowFault.TheVariants.{NoJob as RowNoJob, NoVersion as RowNoVersion, VersionThere as RowVersionThere, JobThere as RowJobThere, TooManyVersions as RowTooManyVersions, TooManyEntries as RowTooManyEntries, TooManyJobs as RowTooManyJobs, WrongJob}
-use Rattle.cm_pkglib.specs.declared.change.Change.TheVariants.{Done}
 use Rattle.cm_pkglib.specs.Rows.{fault_of, opened_fault}
 use Rattle.cm_log.specs.declared.faults.LogFault.{LogFault}
 use Rattle.cm_log.specs.declared.faults.LogFault.TheVariants.{Disk as LogDisk, NoLibrary as LogMissing, Unreadable as LogUnreadable}
 use Rattle.cm_state.specs.declared.fault.OpenFault.{OpenFault}
 use Rattle.cm_state.specs.declared.fault.OpenFault.TheVariants.{Disk as OpenDisk, NoLibrary, Unreadable as OpenUnreadable}
 use Rattle.cm_state.specs.declared.fault.LibFault.{LibFault}
-use Rattle.cm_state.specs.declared.fault.LibFault.TheVariants.{NoJob, VersionThere, JobThere, TooManyVersions, TooManyEntries, TooManyJobs, Spent, Memory, Disk}
+use Rattle.cm_state.specs.declared.fault.LibFault.TheVariants.{NoJob, NoVersion, VersionThere, JobThere, TooManyVersions, TooManyEntries, TooManyJobs, Spent, Memory, Disk}
 use Rattle.cm_state.specs.State.{State, rows_of, count_in, entries_in}
+use Rattle.cm_state.specs.Changes.{StateChange, record_of}
 
 -- why the log is not read
 abbrev pub of_log_fault : LogFault → OpenFault
@@ -22,10 +22,10 @@ of_log_fault (LogUnreadable place at) = OpenUnreadable place at
 abbrev pub most_end : ℕ
 most_end = 2 ^ 40 - 1048576
 
--- why the rows refuse that a job begins, in the order of the causes
+-- why the rows refuse a change, in the order of the causes
 abbrev pub of_row_fault : RowFault → LibFault
 of_row_fault RowNoJob = NoJob
-of_row_fault RowNoVersion = NoJob
+of_row_fault RowNoVersion = NoVersion
 of_row_fault RowVersionThere = VersionThere
 of_row_fault (RowJobThere job) = JobThere job
 of_row_fault RowTooManyVersions = TooManyVersions
@@ -50,9 +50,9 @@ limit_fault state end entries =
     else (if nat_le (2 ^ 64 - 1) state.next then Some Spent
     else spent_or end None)))
 
--- why it refuses to finish a job
-abbrev pub finish_fault : State → ℕ → Option LibFault
-finish_fault state job = spent_or 0 (fault_of (rows_of state) (Done job))
+-- why it refuses a change other than that a job begins
+abbrev pub change_fault : State → StateChange → Option LibFault
+change_fault state change = option_map of_row_fault (fault_of (rows_of state) (record_of change))
 
 -- a call refuses for this cause; where there is none, only memory or the disk keeps it from its work
 abbrev pub Refuses : {T : Type 0} → Option LibFault → Result T LibFault → Type 0

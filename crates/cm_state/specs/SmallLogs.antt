@@ -1,14 +1,14 @@
 -- Small logs, to try on them what files are as a library.
 use Rattle.std.specs.Prelude.{ℕ, List, [], ◌∷◌, ◌++◌, codes, Some, None, if◌then◌else◌}
 use Rattle.std.specs.Str.{bytes_eq}
-use Rattle.cm_disk.specs.Disk.{File, Files}
+use Rattle.cm_disk.specs.Disk.{Files}
 use Rattle.cm_log.specs.declared.shelf.Shelf.TheVariants.{PkgLib}
 use Rattle.cm_log.specs.declared.shelf.Side.TheVariants.{First, Second}
 use Rattle.cm_log.specs.Shelves.{ready_place, log_place}
 use Rattle.cm_log.specs.Settled.{idle_log}
 use Rattle.cm_log.specs.Records.{spelled as spelled_records}
 use Rattle.cm_pkglib.specs.declared.change.Change.{Change}
-use Rattle.cm_pkglib.specs.declared.change.Change.TheVariants.{Done, Dropped, Removed}
+use Rattle.cm_pkglib.specs.declared.change.Change.TheVariants.{Dropped, Removed}
 use Rattle.cm_state.specs.State.{State}
 use Rattle.cm_state.specs.Worked.{live_head}
 

@@ -13,10 +13,14 @@ pub record StandsIn (files : Files) (may_leave : List ℕ → File → Type 0) (
   pub stands : look files ≡ Opened state
   pub settled : IsSettled files may_leave log
 
--- a log on which no append has failed, with room for the ends of all that a state has
+-- The rows of a state, whose log ends there: behind the closed gate there is room for the ends of all that it has.
+pub record IsFitAt (end : ℕ) (state : State) : Type 0 where
+  pub room : has_room end (rows_of state) ≡ true
+  pub sound : IsSound state
+  pub named : AreNamed (rows_of state)
+
+-- a log on which no append has failed, with that room
 pub record IsReady (log : Log) (state : State) : Type 0 where
   pub idle : is_settled log ≡ true
   pub shelf : shelf_of log ≡ PkgLib
-  pub room : has_room (end_of log) (rows_of state) ≡ true
-  pub sound : IsSound state
-  pub named : AreNamed (rows_of state)
+  pub fit : IsFitAt (end_of log) state

@@ -1,7 +1,7 @@
 //! What the calls of a library refuse.
 ghost use Rattle.std.specs.Prelude.{◌≡◌};
 
-use cm_base::{JobId, Memory, Place};
+use cm_base::{Hash, JobId, Memory, Place};
 use cm_disk::DiskFault;
 use std::alloc::AllocError;
 
@@ -25,6 +25,8 @@ pub enum OpenFault {
 pub enum LibFault {
     /// The job is not unfinished.
     NoJob,
+    /// The version is not there.
+    NoVersion,
     /// The version is there.
     VersionThere,
     /// That unfinished job has this package and version.
@@ -35,6 +37,8 @@ pub enum LibFault {
     TooManyEntries,
     /// 256 jobs are unfinished.
     TooManyJobs,
+    /// This is the first hash of the manifest that is not sealed, or is sealed with another size than its entry's.
+    NotStored { hash: Hash },
     /// The next job number is 2^64 - 1, or the log's end is past 2^40 - 1,048,576.
     Spent,
     /// There was no memory.

@@ -1,5 +1,5 @@
 -- The ends of `add`.
-use Rattle.std.proofs.Common.{◌≡◌, ◌≢◌, ◌⊎◌, ℕ, ◌+◌, ◌-◌, ◌^◌, ◌<◌, ◌≤◌, Bool, true, false, if◌then◌else◌, List, length, Result, Ok, Err, inl, inr, refl, sym, ◌∙◌, ap, subst, arith}
+use Rattle.std.proofs.Common.{◌≡◌, ◌≢◌, ℕ, ◌+◌, ◌-◌, ◌^◌, ◌<◌, ◌≤◌, Bool, true, false, if◌then◌else◌, List, length, Result, Ok, Err, inl, inr, refl, sym, ◌∙◌, ap, subst, arith}
 use Rattle.std.specs.Prelude.{Option, None, Some, nat_le, nat_lt, ◌||◌}
 use Rattle.std.specs.Option.{ForSome}
 use Rattle.std.proofs.lemmas.Bool.{lt-leb}
@@ -14,12 +14,12 @@ use Rattle.cm_tree.specs.Scans.{Gathers, HasFault, first_fault, gathered, unless
 use Rattle.cm_state.specs.Becomes.{IsLibrary, Becomes}
 use Rattle.cm_state.specs.Adding.{Told, AddsTree}
 use Rattle.cm_state.specs.Faults.{Refuses, limit_fault, most_end}
-use Rattle.cm_state.specs.Look.{Library, Opened, look, gate_in}
+use Rattle.cm_state.specs.Look.{Library, Opened, gate_in}
 use Rattle.cm_state.specs.State.{State, count_in, entries_in, bytes_of}
 use Rattle.cm_state.specs.Changes.{replayed}
 use Rattle.cm_state.specs.Whole.{AddsWholeTree, changes_of_add}
 use Rattle.cm_state.specs.declared.fault.LibFault.{LibFault}
-use Rattle.cm_state.specs.declared.fault.LibFault.TheVariants.{NoJob, VersionThere, JobThere, TooManyVersions, TooManyEntries, TooManyJobs, Spent, Memory as LibMemory, Disk as LibDisk}
+use Rattle.cm_state.specs.declared.fault.LibFault.TheVariants.{NoJob, NoVersion, VersionThere, JobThere, TooManyVersions, TooManyEntries, TooManyJobs, NotStored, Spent, Memory as LibMemory, Disk as LibDisk}
 use Rattle.cm_top.specs.Bays.{Seen, site}
 use Rattle.cm_top.specs.Machine.{Given, Step, replied, refusal_of, added, limited, is_spent, gathered_or, new_package, step_add}
 use Rattle.cm_top.specs.Openings.{reply_to_add}
@@ -160,21 +160,23 @@ module _ (id : List ℕ) (state : State) (gate : ℕ) (from to : Sourced) (old n
         b = lt-leb 64 (count_in state) few
 
         -- the library does not take the version
-        pub not_added : (T : Type 0) (fault : LibFault) (bay : List ℕ) → bay ≡ site → (fault ≢ LibDisk → new.reads ≡ old.reads) → (fault ≡ LibDisk → Rose old.faults new.faults)
+        pub not_added : (T : Type 0) (fault : LibFault) (bay : List ℕ) → bay ≡ site → (fault ≢ LibDisk → fault ≢ LibMemory → new.reads ≡ old.reads) → (fault ≡ LibDisk → Rose old.faults new.faults)
             → Refuses (limit_fault state gate (length tree)) (refusal T fault) → EndsOn (step_add id) from to old new (reply_to_add bay fault)
         not_added T NoJob bay named same cause why = tt
+        not_added T NoVersion bay named same cause why = tt
         not_added T VersionThere bay named same cause why = tt
         not_added T (JobThere job) bay named same cause why = tt
         not_added T TooManyJobs bay named same cause why = tt
+        not_added T (NotStored hash) bay named same cause why = tt
         not_added T LibMemory bay named same cause why = tt
         not_added T LibDisk bay named same cause why = (named, cause refl)
         not_added T TooManyVersions bay named same cause why = absurd (no_versions T (nat_le 8192 (count_in state)) _ _ _ _ a why)
         not_added T TooManyEntries bay named same cause why =
-            refused_by ManyEntries (same (λ e. absurd (cc)))
+            refused_by ManyEntries (same (λ e. absurd (cc)) (λ e. absurd (cc)))
             (choose_2 (nat_le 64 (count_in state)) (nat_lt 400000 (entries_in state + length tree)) (is_spent gate state) _ _ _ _ b (entries_is T (nat_le 8192 (count_in state)) (nat_lt 400000 (entries_in state + length tree)) _ _ _ a why))
         not_added T Spent bay named same cause why =
             let s = spent_is T (nat_le 8192 (count_in state)) (nat_lt 400000 (entries_in state + length tree)) (nat_le 256 (length state.jobs)) (nat_le (2 ^ 64 - 1) state.next) (nat_lt most_end gate) a why in
-            refused_by NoneLeft (same (λ e. absurd (cc)))
+            refused_by NoneLeft (same (λ e. absurd (cc)) (λ e. absurd (cc)))
             (choose_3 (nat_le 64 (count_in state)) (nat_lt 400000 (entries_in state + length tree)) (is_spent gate state) _ _ _ _ b s.0 s.1)
 
         -- the library takes the version with its whole tree

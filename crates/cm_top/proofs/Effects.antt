@@ -1,16 +1,16 @@
 -- What commands make of a library with whole trees.
-use Rattle.std.proofs.Common.{◌≡◌, ℕ, List, [], ◌++◌, refl, sym, ◌∙◌, ap, subst}
+use Rattle.std.proofs.Common.{◌≡◌, ℕ, List, sym, ◌∙◌, subst}
 use Rattle.std.specs.Prelude.{Option, None, Some, option_map}
 use Rattle.std.proofs.lemmas.Option.{same_Some}
 use Rattle.cm_disk.specs.Disk.{Files}
-use Rattle.cm_tree.specs.Trees.{File, Apart, manifest_of}
+use Rattle.cm_tree.specs.Trees.{File, manifest_of}
 use Rattle.cm_state.specs.Becomes.{IsLibrary, Becomes}
 use Rattle.cm_state.specs.Adding.{Told, AddsTree}
-use Rattle.cm_state.specs.Look.{Library, Missing, Opened, Unreadable, look}
+use Rattle.cm_state.specs.Look.{Opened, look}
 use Rattle.cm_state.specs.State.{State, empty}
 use Rattle.cm_state.specs.Changes.{replayed}
-use Rattle.cm_state.specs.Whole.{Trees, OpensTrees, AddsWholeTree, outline, changes_of_add, with_tree}
-use Rattle.cm_top.specs.Worlds.{Effect, Nothing, NewLibrary, NewVersion, OpensTo, OpensOn, AreApart, no_trees}
+use Rattle.cm_state.specs.Whole.{Trees, AddsWholeTree, outline, changes_of_add, with_tree}
+use Rattle.cm_top.specs.Worlds.{Nothing, NewLibrary, NewVersion, OpensTo, OpensOn, AreApart}
 
 -- a bay that reads as before
 pub opens_same : (old new : Option Files) → new ≡ old → OpensOn Nothing old new

@@ -12,7 +12,7 @@ use Rattle.cm_top.specs.Runs.{Sourced, Steps, EndsOn}
 use Rattle.cm_top.specs.declared.reply.Reply.{Reply}
 use Rattle.cm_top.specs.declared.reply.Reply.TheVariants.{Made, Refused}
 use Rattle.cm_top.specs.declared.reply.Refusal.TheVariants.{NoBay}
-use Rattle.cm_top.proofs.Effects.{opens_same, opens_made}
+use Rattle.cm_top.proofs.Effects.{opens_made}
 use Rattle.cm_top.proofs.OpenLemmas.{steps_same}
 use Rattle.cm_top.proofs.SomeFiles.{some_given, given_agrees, given_gate}
 use Rattle.cm_state.specs.Becomes.{IsLibrary}

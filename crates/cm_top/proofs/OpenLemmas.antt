@@ -1,5 +1,5 @@
 -- The ends of a command that opens the site's library.
-use Rattle.std.proofs.Common.{◌≡◌, ◌⊎◌, ℕ, Bool, true, false, if◌then◌else◌, List, Option, None, Some, inl, inr, refl, sym, ◌∙◌, ap, subst}
+use Rattle.std.proofs.Common.{◌≡◌, ◌⊎◌, ℕ, Bool, true, false, if◌then◌else◌, List, Option, inl, inr, refl, sym, ◌∙◌, ap, subst}
 use Rattle.cm_base.specs.Causes.{Rose}
 use Rattle.cm_disk.specs.Disk.{Files}
 use Rattle.cm_tree.specs.Folders.{Agrees}
@@ -13,7 +13,7 @@ use Rattle.cm_top.specs.Machine.{Given, Step, replied, listed, step_list}
 use Rattle.cm_top.specs.Openings.{reply_of}
 use Rattle.cm_top.specs.Runs.{Sourced, Steps, EndsOn}
 use Rattle.cm_top.specs.declared.reply.Reply.{Reply}
-use Rattle.cm_top.specs.declared.reply.Reply.TheVariants.{Versions, Refused, Disk, Memory, NoLibrary, Unreadable as NotReadable}
+use Rattle.cm_top.specs.declared.reply.Reply.TheVariants.{Versions, Refused, Memory, NoLibrary, Unreadable as NotReadable}
 use Rattle.cm_top.specs.declared.reply.Refusal.{Refusal}
 use Rattle.cm_top.specs.declared.reply.Refusal.TheVariants.{NoBay}
 use Rattle.cm_top.proofs.SomeFiles.{some_given, given_agrees, given_gate}

@@ -1,12 +1,13 @@
 //! The command `add`.
 ghost use Rattle.std.specs.Prelude.{◌≡◌, ◌<◌, None, Some};
 ghost use Rattle.std.specs.Option.{ForSome};
+ghost use Rattle.cm_contents.specs.Seals.{SealsVersions};
+ghost use Rattle.cm_pkglib.specs.Counts.{seal_at};
 ghost use Rattle.cm_pkglib.specs.Rows.{last_of};
 ghost use Rattle.cm_tree.specs.GatheredFiles.{files_of};
 ghost use Rattle.cm_tree.specs.Scans.{Gathers};
 ghost use Rattle.cm_tree.specs.Trees.{IsTree, manifest_of};
-ghost use Rattle.cm_state.specs.Look.{gate_in};
-ghost use Rattle.cm_library.specs.Open.{disk_of, end_of, state_of, IsOpen};
+ghost use Rattle.cm_state.specs.Look.{Opened, look, gate_in};
 ghost use Rattle.cm_state.specs.State.{bytes_of, count_in};
 ghost use Rattle.cm_top.specs.Bays.{seen, seen_disk, site, SameBut, IsSiteAlone};
 ghost use Rattle.cm_top.specs.Machine.{refusal_of, step_add};
@@ -93,13 +94,15 @@ fn add_tree<D: Disk + Drop>(
     tree: &Gathered,
     site_name: ServerName,
 ) -> Reply
-    requires open { IsOpen D.reads D.may_leave library.old }
-    requires gate { ForSome (D.reads (disk_of library.old)) (λ files. gate_in files ≡ end_of library.old) }
-    requires new { last_of «package» (state_of library.old).lasts ≡ None }
-    requires few { count_in (state_of library.old) < 64 }
+    requires settled { library.old.pending ≡ None }
+    requires stands { ForSome (D.reads library.old.disk) (λ files. look files ≡ Opened library.old.state) }
+    requires gate { ForSome (D.reads library.old.disk) (λ files. gate_in files ≡ library.old.end) }
+    requires sealed { SealsVersions (seal_at library.old.seals) library.old.state }
+    requires new { last_of «package» library.old.state.lasts ≡ None }
+    requires few { count_in library.old.state < 64 }
     requires named { site_name ≡ site }
     ensures { (from to : Sourced) → Gathers 64 65536 from.shown tree.now → EndsOn (step_add «package») from to
-        (seen_disk D.reads D.faults (disk_of library.old)) (seen_disk D.reads D.faults (disk_of library.new)) result }
+        (seen_disk D.reads D.faults library.old.disk) (seen_disk D.reads D.faults library.new.disk) result }
 {
     adding_keeps_trees_whole();
     let files = tree.files();
@@ -122,12 +125,14 @@ fn add_new<D: Disk + Drop>(
     tree: &Gathered,
     site_name: ServerName,
 ) -> Reply
-    requires open { IsOpen D.reads D.may_leave library.old }
-    requires gate { ForSome (D.reads (disk_of library.old)) (λ files. gate_in files ≡ end_of library.old) }
-    requires new { last_of «package» (state_of library.old).lasts ≡ None }
+    requires settled { library.old.pending ≡ None }
+    requires stands { ForSome (D.reads library.old.disk) (λ files. look files ≡ Opened library.old.state) }
+    requires gate { ForSome (D.reads library.old.disk) (λ files. gate_in files ≡ library.old.end) }
+    requires sealed { SealsVersions (seal_at library.old.seals) library.old.state }
+    requires new { last_of «package» library.old.state.lasts ≡ None }
     requires named { site_name ≡ site }
     ensures { (from to : Sourced) → Gathers 64 65536 from.shown tree.now → EndsOn (step_add «package») from to
-        (seen_disk D.reads D.faults (disk_of library.old)) (seen_disk D.reads D.faults (disk_of library.new)) result }
+        (seen_disk D.reads D.faults library.old.disk) (seen_disk D.reads D.faults library.new.disk) result }
 {
     if library.count() >= MOST_VERSIONS {
         return refused(Refusal::TooManyVersions);
@@ -143,11 +148,13 @@ fn add_folder<F: Folder, D: Disk + Drop>(
     package: PackageId,
     site_name: ServerName,
 ) -> Reply
-    requires open { IsOpen D.reads D.may_leave library.old }
-    requires gate { ForSome (D.reads (disk_of library.old)) (λ files. gate_in files ≡ end_of library.old) }
+    requires settled { library.old.pending ≡ None }
+    requires stands { ForSome (D.reads library.old.disk) (λ files. look files ≡ Opened library.old.state) }
+    requires gate { ForSome (D.reads library.old.disk) (λ files. gate_in files ≡ library.old.end) }
+    requires sealed { SealsVersions (seal_at library.old.seals) library.old.state }
     requires named { site_name ≡ site }
     ensures { EndsOn (step_add «package») (sourced F.shows F.faults folder.old) (sourced F.shows F.faults folder.new)
-        (seen_disk D.reads D.faults (disk_of library.old)) (seen_disk D.reads D.faults (disk_of library.new)) result }
+        (seen_disk D.reads D.faults library.old.disk) (seen_disk D.reads D.faults library.new.disk) result }
 {
     if let Some(last) = library.last(package) {
         return refused(Refusal::PackageThere { last });

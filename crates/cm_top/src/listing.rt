@@ -1,6 +1,5 @@
 //! The command `list`.
 ghost use Rattle.std.specs.Prelude.{◌≡◌, ◌⊎◌, IfOk, List};
-ghost use Rattle.cm_library.specs.Open.{state_of};
 ghost use Rattle.cm_state.specs.State.{version_rows, job_rows};
 ghost use Rattle.cm_top.specs.Bays.{seen, seen_disk, site, SameBut, IsSiteAlone};
 ghost use Rattle.cm_top.specs.Machine.{step_list, listed};
@@ -28,7 +27,7 @@ fn copied_jobs(alloc: Global, rows: &[JobRow]) -> Result<Vec<JobRow>, AllocError
 }
 
 fn rows_of<D: Disk + Drop>(alloc: Global, library: &Library<D>) -> Result<Reply, AllocError>
-    ensures { IfOk result (λ reply. reply ≡ Versions (version_rows (state_of library.now)) (job_rows (state_of library.now))) }
+    ensures { IfOk result (λ reply. reply ≡ Versions (version_rows library.now.state) (job_rows library.now.state)) }
 {
     Ok(Reply::Versions {
         versions: List::of(copied_versions(alloc, library.versions())?),
@@ -37,7 +36,7 @@ fn rows_of<D: Disk + Drop>(alloc: Global, library: &Library<D>) -> Result<Reply,
 }
 
 fn tell<D: Disk + Drop>(alloc: Global, library: &Library<D>, bay: ServerName) -> Reply
-    ensures { (result ≡ listed bay (state_of library.now)) ⊎ (result ≡ Memory) }
+    ensures { (result ≡ listed bay library.now.state) ⊎ (result ≡ Memory) }
 {
     if bay.as_bytes() != b"site".as_slice() {
         return Reply::Refused {

@@ -1,4 +1,4 @@
-use Rattle.std.proofs.Common.{◌≡◌, List, [], ◌∷◌, ◌++◌, sym, ◌∙◌, ap, subst, refl}
+use Rattle.std.proofs.Common.{List, [], ◌∷◌, ◌++◌, ◌∙◌, ap}
 use Rattle.cm_top.specs.Machine.{step_add}
 use Rattle.cm_top.specs.Runs.{sourced}
 use Rattle.cm_top.specs.declared.bay.Bay.{Bay}

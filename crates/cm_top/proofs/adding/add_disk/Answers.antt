@@ -1,10 +1,8 @@
-use Rattle.std.proofs.Common.{◌≡◌, refl, sym, ◌∙◌, ap, subst}
-use Rattle.cm_library.specs.Open.{disk_of}
+use Rattle.std.proofs.Common.{refl, sym, subst}
 use Rattle.cm_top.specs.Bays.{seen_disk}
 use Rattle.cm_top.specs.Machine.{step_add}
 use Rattle.cm_top.specs.Runs.{EndsOn, sourced}
 use Rattle.cm_top.specs.declared.reply.Reply.{Reply}
-use Rattle.cm_top.proofs.AddLemmas.{from_earlier}
 use Rattle.cm_top.proofs.OpenLemmas.{not_open}
 use Rattle.cm_top.proofs.adding.add_disk.Goals as goal
 

@@ -1,8 +1,6 @@
-use Rattle.std.proofs.Common.{◌≡◌, refl, sym, ◌∙◌, ap, subst}
-use Rattle.std.specs.Prelude.{Result, Err}
-use Rattle.cm_tree.specs.declared.gathered.Gathered.{Gathered}
+use Rattle.std.proofs.Common.{refl, sym, ◌∙◌, ap, subst}
+use Rattle.std.specs.Prelude.{Err}
 use Rattle.cm_tree.specs.declared.scan_fault.ScanFault.{ScanFault}
-use Rattle.cm_library.specs.Open.{disk_of, end_of, state_of}
 use Rattle.cm_top.specs.Bays.{seen_disk}
 use Rattle.cm_top.specs.Machine.{step_add}
 use Rattle.cm_top.specs.Runs.{EndsOn, sourced}
@@ -14,9 +12,9 @@ pub returns-in-Some : goal.returns-in-Some
 returns-in-Some g c =
     let library = c.args.library.now in
     let from = sourced g.F.Folder.shows g.F.Folder.faults c.args.folder.now in
-    let old = seen_disk g.D.Disk.reads g.D.Disk.faults (disk_of library) in
+    let old = seen_disk g.D.Disk.reads g.D.Disk.faults library.disk in
     subst (λ (reply : Reply). EndsOn (step_add c.args.«package») from from old old reply) (sym c.refused.ensures)
-    (was_opened c.args.«package» (state_of library) (end_of library) from from old old c.requires.gate (λ files told. (c.requires.open.disk files told).stands) c.in-Some.last refl (sym c.in-Some.ensures))
+    (was_opened c.args.«package» library.state library.end from from old old c.requires.gate c.requires.stands c.in-Some.last refl (sym c.in-Some.ensures))
 
 pub returns-in-Ok : goal.returns-in-Ok
 returns-in-Ok g c =
@@ -29,8 +27,8 @@ returns-in-Err g c =
     let library = c.args.library.now in
     let from = sourced g.F.Folder.shows g.F.Folder.faults c.args.folder.now in
     let to = sourced g.F.Folder.shows g.F.Folder.faults c.gather.new.folder in
-    let old = seen_disk g.D.Disk.reads g.D.Disk.faults (disk_of library) in
+    let old = seen_disk g.D.Disk.reads g.D.Disk.faults library.disk in
     subst (λ (reply : Reply). EndsOn (step_add c.args.«package») from to old old reply) (sym c.not_gathered.ensures)
-    (not_gathered c.args.«package» (state_of library) (end_of library) from to old old c.requires.gate (λ files told. (c.requires.open.disk files told).stands) (sym c.last.ensures ∙ c.in_default.is)
+    (not_gathered c.args.«package» library.state library.end from to old old c.requires.gate c.requires.stands (sym c.last.ensures ∙ c.in_default.is)
     c.in-Err.fault refl c.in-Err.ensures.fault
     (λ folder. c.in-Err.ensures.cause (ap (λ (f : ScanFault). Err f) folder)))

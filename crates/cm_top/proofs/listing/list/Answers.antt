@@ -1,7 +1,5 @@
-use Rattle.std.proofs.Common.{◌≡◌, List, [], ◌∷◌, ◌++◌, sym, ◌∙◌, ap, subst, refl}
-use Rattle.cm_top.specs.Bays.{Seen, seen, seen_disk, seen_bay}
+use Rattle.std.proofs.Common.{List, [], ◌∷◌, ◌++◌, ◌∙◌, ap}
 use Rattle.cm_top.specs.Machine.{step_list}
-use Rattle.cm_top.specs.Runs.{EndsBy}
 use Rattle.cm_top.specs.declared.bay.Bay.{Bay}
 use Rattle.cm_top.proofs.OneBay.{ends_taken}
 use Rattle.cm_top.proofs.listing.list.Goals as goal

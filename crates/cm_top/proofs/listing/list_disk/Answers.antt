@@ -1,7 +1,4 @@
-use Rattle.std.proofs.Common.{◌≡◌, refl, sym, ◌∙◌, ap, subst}
-use Rattle.cm_disk.specs.Disk.{Files}
-use Rattle.cm_state.specs.Look.{Library, look, Opened}
-use Rattle.cm_library.specs.Open.{state_of}
+use Rattle.std.proofs.Common.{refl, sym, ◌∙◌, ap, subst}
 use Rattle.cm_top.specs.Bays.{seen_disk}
 use Rattle.cm_top.specs.Runs.{EndsOn}
 use Rattle.cm_top.specs.Machine.{step_list}
@@ -13,10 +10,10 @@ pub returns-in-Ok : goal.returns-in-Ok
 returns-in-Ok g c = λ from to.
     let reads = g.D.Disk.reads in
     let faults = g.D.Disk.faults in
-    let same = c.in-Ok.ensures.same in
-    told c.args.bay from to (seen_disk reads faults c.args.disk) (seen_disk reads faults c.close.result) (state_of c.in-Ok.library) c.tell-reply.result c.tell-reply.ensures
+    let same = c.in-Ok.ensures.found.same in
+    told c.args.bay from to (seen_disk reads faults c.args.disk) (seen_disk reads faults c.close.result) c.in-Ok.library.state c.tell-reply.result c.tell-reply.ensures
     (ap reads c.close.ensures ∙ same)
-    (λ files is. (c.in-Ok.ensures.open.disk files (same ∙ is)).stands)
+    c.in-Ok.ensures.found.stands
 
 pub returns-in-Err : goal.returns-in-Err
 returns-in-Err g c = λ from to.

@@ -1,8 +1,8 @@
-use Rattle.std.proofs.Common.{◌≡◌, ℕ, List, sym, ◌∙◌, ap, subst}
+use Rattle.std.proofs.Common.{ℕ, List, sym, ◌∙◌, ap, subst}
 use Rattle.cm_top.specs.Bays.{seen}
 use Rattle.cm_top.specs.Runs.{Ends, sourced}
 use Rattle.cm_top.specs.declared.line.Line.{Line}
-use Rattle.cm_top.specs.declared.line.Line.TheVariants.{Init, Add, List as ListBay}
+use Rattle.cm_top.specs.declared.line.Line.TheVariants.{Init}
 use Rattle.cm_top.proofs.running.answer.Goals as goal
 
 pub returns-in-Init-clause-ends : goal.returns-in-Init-clause-ends

@@ -1,0 +1,30 @@
+use Rattle.std.proofs.Common.{◌≡◌, subst, None}
+use Rattle.std.specs.Option.{ForSome}
+use Rattle.cm_disk.specs.Disk.{Files, IsImage}
+use Rattle.cm_state.specs.Look.{Opened, look}
+use Rattle.cm_state.specs.Opens.{OpensOr, StandsOr, EachOpensSome}
+use Rattle.cm_library.specs.Kept.{Seen}
+use Rattle.cm_library.proofs.Keeps.{kept_files, kept_stands}
+use Rattle.cm_library.proofs.Sure.{kept_opens}
+use Rattle.cm_library.proofs.library.Library.tells.Goals as goal
+
+pub returns-clause-files : goal.returns-clause-files
+returns-clause-files g c =
+    let d = g.D.Disk in
+    let s = c.self.inside in
+    subst (λ (v : Seen g.row.D.Denot). ForSome (d.reads v.disk) (λ files. v.pending ≡ None → look files ≡ Opened v.state)) c.self.view_is
+    (kept_files d.reads d.may_leave s.disk s.log s.contents s.pending c.self.invariant.standing)
+
+pub returns-clause-stands : goal.returns-clause-stands
+returns-clause-stands g c =
+    let d = g.D.Disk in
+    let s = c.self.inside in
+    subst (λ (v : Seen g.row.D.Denot). ForSome (d.reads v.disk) (λ files. (image : Files) → IsImage (d.may_leave v.disk) image → StandsOr v.state v.pending image)) c.self.view_is
+    (kept_stands d.reads d.may_leave s.disk s.log s.contents s.pending c.self.invariant.standing)
+
+pub returns-clause-opens : goal.returns-clause-opens
+returns-clause-opens g c =
+    let d = g.D.Disk in
+    let s = c.self.inside in
+    subst (λ (v : Seen g.row.D.Denot). EachOpensSome (d.may_leave v.start) → ForSome (d.reads v.disk) (λ files. (image : Files) → IsImage (d.may_leave v.disk) image → OpensOr v.state v.pending image)) c.self.view_is
+    (kept_opens d.reads d.may_leave s.start.value s.disk s.log s.contents s.counts s.pending c.self.invariant)

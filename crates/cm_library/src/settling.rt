@@ -1,0 +1,53 @@
+//! A failed call is settled.
+ghost use Rattle.std.specs.Prelude.{◌≡◌, Ok, None, IfOk, OnOk, IfErr, IsErrOf};
+ghost use Rattle.std.specs.Option.{ForSome};
+ghost use Rattle.cm_base.specs.Causes.{Rose};
+ghost use Rattle.cm_disk.specs.Disk.{Files, IsImage};
+ghost use Rattle.cm_log.specs.Frames.{OnlyReads};
+ghost use Rattle.cm_state.specs.Look.{Opened, look};
+ghost use Rattle.cm_state.specs.Opens.{OpensOr, StandsOr, EachOpensSome};
+ghost use Rattle.cm_state.specs.Sound.{IsSound};
+ghost use Rattle.cm_library.specs.Calls.{Finds, StaysUnsettled, Tells};
+
+use crate::commits::settle_pending;
+use crate::library::Library;
+use cm_disk::Disk;
+use cm_pkglib::Change;
+use cm_state::LibFault;
+
+impl<D: Disk> Library<D> {
+    /// Settles what became of a call that the disk failed: the record of its change where that was committed. None where it
+    /// was not, or where no call had failed. It takes no memory, and reads and syncs alone. Each call that may answer `Disk`
+    /// does this first.
+    pub fn settle(&mut self) -> Result<Option<Change>, LibFault>
+        ensures found { OnOk result (Finds D.reads self.old self.new) }
+        ensures told { IfOk result (λ told. Tells self.old.pending self.old.state self.new.state told) }
+        ensures failed { IfErr result (λ fault. (fault ≡ LibFault.Disk) × StaysUnsettled self.old self.new) }
+        ensures was_settled { self.old.pending ≡ None → (result ≡ Ok None) × (self.new ≡ self.old) }
+        ensures only { OnlyReads D.reads D.may_leave D.moment D.left_since D.faults self.old.disk self.new.disk }
+        ensures cause { IsErrOf result LibFault.Disk → Rose (D.faults self.old.disk) (D.faults self.new.disk) }
+    {
+        match settle_pending(
+            &self.start,
+            &mut self.disk,
+            &mut self.log,
+            &mut self.contents,
+            &mut self.counts,
+            &mut self.pending,
+        ) {
+            Ok(change) => Ok(change),
+            Err(_) => Err(LibFault::Disk),
+        }
+    }
+
+    /// Says, to contracts alone, what a crash leaves now: the library in its state, or where a call has failed in that before its
+    /// change or after it; with each file of its versions, where each image opened to some state at the opening.
+    pub fn tells(&self)
+        ensures sound { IsSound self.now.state }
+        ensures files { ForSome (D.reads self.now.disk) (λ files. self.now.pending ≡ None → look files ≡ Opened self.now.state) }
+        ensures stands { ForSome (D.reads self.now.disk) (λ _. (image : Files) → IsImage (D.may_leave self.now.disk) image → StandsOr self.now.state self.now.pending image) }
+        ensures opens { EachOpensSome (D.may_leave self.now.start) → ForSome (D.reads self.now.disk) (λ _. (image : Files) → IsImage (D.may_leave self.now.disk) image → OpensOr self.now.state self.now.pending image) }
+    {
+        let _log = &self.log;
+    }
+}
