@@ -1,0 +1,160 @@
+//! A call of a library and its answer, in numbers.
+use cm_base::{Hash, JobId, PackageId, Version};
+use cm_disk::MemDisk;
+use cm_library::{Change, LibFault, Library};
+use cm_tree::Manifest;
+use std::alloc::Global;
+
+/// The manifest of the file `k`, which is `abc`.
+pub(crate) const ONE: &[u8] = &[
+    67, 77, 68, 76, 1, 1, 0, 0, 0, 1, 107, 3, 0, 0, 0, 186, 120, 22, 191, 143, 1, 207, 234, 65, 65,
+    64, 222, 93, 174, 34, 35, 176, 3, 97, 163, 150, 23, 122, 156, 180, 16, 255, 97, 242, 0, 21,
+    173,
+];
+
+/// The same with one byte more.
+pub(crate) const LONGER: &[u8] = &[
+    67, 77, 68, 76, 1, 1, 0, 0, 0, 1, 107, 4, 0, 0, 0, 186, 120, 22, 191, 143, 1, 207, 234, 65, 65,
+    64, 222, 93, 174, 34, 35, 176, 3, 97, 163, 150, 23, 122, 156, 180, 16, 255, 97, 242, 0, 21,
+    173,
+];
+
+/// The manifest of the file `k`, which is `abc`, of `l`, which is empty, and of `m`, which is `hello`.
+pub(crate) const THREE: &[u8] = &[
+    67, 77, 68, 76, 1, 3, 0, 0, 0, 1, 107, 3, 0, 0, 0, 186, 120, 22, 191, 143, 1, 207, 234, 65, 65,
+    64, 222, 93, 174, 34, 35, 176, 3, 97, 163, 150, 23, 122, 156, 180, 16, 255, 97, 242, 0, 21,
+    173, 1, 108, 0, 0, 0, 0, 227, 176, 196, 66, 152, 252, 28, 20, 154, 251, 244, 200, 153, 111,
+    185, 36, 39, 174, 65, 228, 100, 155, 147, 76, 164, 149, 153, 27, 120, 82, 184, 85, 1, 109, 5,
+    0, 0, 0, 44, 242, 77, 186, 95, 176, 163, 14, 38, 232, 59, 42, 197, 185, 226, 158, 27, 22, 30,
+    92, 31, 167, 66, 94, 115, 4, 51, 98, 147, 139, 152, 36,
+];
+
+/// The manifest of the files `k` and `l`, which are `abc`.
+pub(crate) const TWICE: &[u8] = &[
+    67, 77, 68, 76, 1, 2, 0, 0, 0, 1, 107, 3, 0, 0, 0, 186, 120, 22, 191, 143, 1, 207, 234, 65, 65,
+    64, 222, 93, 174, 34, 35, 176, 3, 97, 163, 150, 23, 122, 156, 180, 16, 255, 97, 242, 0, 21,
+    173, 1, 108, 3, 0, 0, 0, 186, 120, 22, 191, 143, 1, 207, 234, 65, 65, 64, 222, 93, 174, 34, 35,
+    176, 3, 97, 163, 150, 23, 122, 156, 180, 16, 255, 97, 242, 0, 21, 173,
+];
+
+/// The manifest without files.
+pub(crate) const NONE: &[u8] = &[67, 77, 68, 76, 1, 0, 0, 0, 0];
+
+/// The SHA-256 of `abc`.
+pub(crate) const ABC: Hash = Hash([
+    186, 120, 22, 191, 143, 1, 207, 234, 65, 65, 64, 222, 93, 174, 34, 35, 176, 3, 97, 163, 150,
+    23, 122, 156, 180, 16, 255, 97, 242, 0, 21, 173,
+]);
+
+/// The SHA-256 of no bytes.
+pub(crate) const EMPTY: Hash = Hash([
+    227, 176, 196, 66, 152, 252, 28, 20, 154, 251, 244, 200, 153, 111, 185, 36, 39, 174, 65, 228,
+    100, 155, 147, 76, 164, 149, 153, 27, 120, 82, 184, 85,
+]);
+
+/// A call with numbers of versions and jobs, and the bytes of a manifest.
+#[derive(Clone, Copy)]
+pub(crate) enum Call {
+    Begin(u32, &'static [u8]),
+    Finish(u64),
+    Drop(u64),
+    Remove(u32),
+}
+
+/// What a call answers.
+#[derive(Clone, Copy, PartialEq, Eq)]
+pub(crate) enum Answer {
+    /// The job with this number begins.
+    Begun(u64),
+    Done,
+    NoJob,
+    NoVersion,
+    VersionThere,
+    JobThere(u64),
+    NotStored(Hash),
+    Disk,
+    /// Anything else.
+    Other,
+}
+
+/// The package that all calls are on.
+pub(crate) fn package() -> Option<PackageId> {
+    PackageId::read(b"PS100001")
+}
+
+/// The manifest that these bytes spell.
+pub(crate) fn manifest_of(alloc: Global, bytes: &[u8]) -> Option<Manifest> {
+    Manifest::decode(alloc, bytes).ok()
+}
+
+fn refused(fault: LibFault) -> Answer {
+    match fault {
+        LibFault::NoJob => Answer::NoJob,
+        LibFault::NoVersion => Answer::NoVersion,
+        LibFault::VersionThere => Answer::VersionThere,
+        LibFault::JobThere { job } => Answer::JobThere(job.number()),
+        LibFault::NotStored { hash } => Answer::NotStored(hash),
+        LibFault::Disk => Answer::Disk,
+        _ => Answer::Other,
+    }
+}
+
+fn ended(res: Result<(), LibFault>) -> Answer {
+    match res {
+        Ok(()) => Answer::Done,
+        Err(fault) => refused(fault),
+    }
+}
+
+fn begun(res: Result<JobId, LibFault>) -> Answer {
+    match res {
+        Ok(job) => Answer::Begun(job.number()),
+        Err(fault) => refused(fault),
+    }
+}
+
+/// What a library answers. None where a number or the manifest is none, or there is no memory for the manifest.
+pub(crate) fn answered(
+    alloc: Global,
+    library: &mut Library<MemDisk>,
+    call: Call,
+) -> Option<Answer> {
+    match call {
+        Call::Begin(version, manifest) => {
+            let manifest = manifest_of(alloc, manifest)?;
+            Some(begun(library.begin(package()?, Version::new(version)?, manifest)))
+        }
+        Call::Finish(job) => Some(ended(library.finish(JobId::new(job)?))),
+        Call::Drop(job) => Some(ended(library.drop_job(JobId::new(job)?))),
+        Call::Remove(version) => {
+            Some(ended(library.remove_version(package()?, Version::new(version)?)))
+        }
+    }
+}
+
+/// Whether a change is that of a call.
+pub(crate) fn is_change_of(call: Call, told: Change) -> bool {
+    match (call, told) {
+        (
+            Call::Begin(number, manifest),
+            Change::Opened {
+                package: id,
+                version,
+                size,
+                ..
+            },
+        ) => {
+            Some(id) == package() && version.number() == number && size as usize == manifest.len()
+        }
+        (Call::Finish(number), Change::Done { job }) => job.number() == number,
+        (Call::Drop(number), Change::Dropped { job }) => job.number() == number,
+        (
+            Call::Remove(number),
+            Change::Removed {
+                package: id,
+                version,
+            },
+        ) => Some(id) == package() && version.number() == number,
+        _ => false,
+    }
+}

@@ -1,0 +1,126 @@
+//! Which hashes keep their seals, so that a job that names them can be finished.
+use crate::calls::{ABC, Answer, Call, ONE, THREE, TWICE};
+use crate::libraries::{FILES, add, has, installed};
+use crate::steps::{Step, again, wrong};
+use std::test::Fail;
+
+// Neither a version nor a job names the hash any more.
+#[test]
+fn lost_with_the_version(rt: HostRuntime) -> Result<(), Fail> {
+    let mut library = installed(rt.alloc()).ok_or("a library")?;
+    let steps: [Step; 3] = [
+        (Call::Remove(1), Answer::Done, (&[], &[])),
+        (Call::Begin(2, ONE), Answer::Begun(2), (&[(2, 2)], &[])),
+        (Call::Finish(2), Answer::NotStored(ABC), (&[(2, 2)], &[])),
+    ];
+    assert!(rt; wrong(rt.alloc(), &mut library, &steps).is_none());
+    Ok(())
+}
+
+// A job of the same opening names it still.
+#[test]
+fn kept_by_a_job(rt: HostRuntime) -> Result<(), Fail> {
+    let mut library = installed(rt.alloc()).ok_or("a library")?;
+    let steps: [Step; 3] = [
+        (Call::Begin(2, ONE), Answer::Begun(2), (&[(2, 2)], &[1])),
+        (Call::Remove(1), Answer::Done, (&[(2, 2)], &[])),
+        (Call::Finish(2), Answer::Done, (&[], &[2])),
+    ];
+    assert!(rt; wrong(rt.alloc(), &mut library, &steps).is_none());
+    let library = again(rt.alloc(), library).ok_or("opened")?;
+    assert!(rt; has(&library, (&[], &[2])));
+    Ok(())
+}
+
+// A job was dropped that named it alone.
+#[test]
+fn lost_with_a_job(rt: HostRuntime) -> Result<(), Fail> {
+    let mut library = installed(rt.alloc()).ok_or("a library")?;
+    let steps: [Step; 5] = [
+        (Call::Begin(2, ONE), Answer::Begun(2), (&[(2, 2)], &[1])),
+        (Call::Remove(1), Answer::Done, (&[(2, 2)], &[])),
+        (Call::Drop(2), Answer::Done, (&[], &[])),
+        (Call::Begin(2, ONE), Answer::Begun(3), (&[(3, 2)], &[])),
+        (Call::Finish(3), Answer::NotStored(ABC), (&[(3, 2)], &[])),
+    ];
+    assert!(rt; wrong(rt.alloc(), &mut library, &steps).is_none());
+    Ok(())
+}
+
+// At an opening the hashes of versions alone are sealed.
+#[test]
+fn lost_at_an_opening(rt: HostRuntime) -> Result<(), Fail> {
+    let mut library = installed(rt.alloc()).ok_or("a library")?;
+    let steps: [Step; 2] = [
+        (Call::Begin(2, ONE), Answer::Begun(2), (&[(2, 2)], &[1])),
+        (Call::Remove(1), Answer::Done, (&[(2, 2)], &[])),
+    ];
+    assert!(rt; wrong(rt.alloc(), &mut library, &steps).is_none());
+    let mut library = again(rt.alloc(), library).ok_or("opened")?;
+    let steps: [Step; 1] = [(Call::Finish(2), Answer::NotStored(ABC), (&[(2, 2)], &[]))];
+    assert!(rt; wrong(rt.alloc(), &mut library, &steps).is_none());
+    Ok(())
+}
+
+// An opening counts what jobs name, too.
+#[test]
+fn kept_by_a_job_that_was_found(rt: HostRuntime) -> Result<(), Fail> {
+    let mut library = installed(rt.alloc()).ok_or("a library")?;
+    let steps: [Step; 1] = [(Call::Begin(2, ONE), Answer::Begun(2), (&[(2, 2)], &[1]))];
+    assert!(rt; wrong(rt.alloc(), &mut library, &steps).is_none());
+    let mut library = again(rt.alloc(), library).ok_or("opened")?;
+    let steps: [Step; 2] = [
+        (Call::Remove(1), Answer::Done, (&[(2, 2)], &[])),
+        (Call::Finish(2), Answer::Done, (&[], &[2])),
+    ];
+    assert!(rt; wrong(rt.alloc(), &mut library, &steps).is_none());
+    Ok(())
+}
+
+// Versions that are added bring what jobs lack.
+#[test]
+fn brought_by_a_version(rt: HostRuntime) -> Result<(), Fail> {
+    let mut library = installed(rt.alloc()).ok_or("a library")?;
+    let steps: [Step; 1] = [(Call::Begin(2, THREE), Answer::Begun(2), (&[(2, 2)], &[1]))];
+    assert!(rt; wrong(rt.alloc(), &mut library, &steps).is_none());
+    let files: [(&[u8], &[u8]); 2] = [(b"a", b"hello"), (b"b", b"")];
+    assert!(rt; add(rt.alloc(), &mut library, 3, &files) == Some(Ok(())));
+    let steps: [Step; 2] = [
+        (Call::Remove(1), Answer::Done, (&[(2, 2)], &[3])),
+        (Call::Finish(2), Answer::Done, (&[], &[2, 3])),
+    ];
+    assert!(rt; wrong(rt.alloc(), &mut library, &steps).is_none());
+    let mut library = again(rt.alloc(), library).ok_or("opened")?;
+    let steps: [Step; 1] = [(Call::Begin(4, ONE), Answer::Begun(4), (&[(4, 4)], &[2, 3]))];
+    assert!(rt; wrong(rt.alloc(), &mut library, &steps).is_none());
+    assert!(rt; add(rt.alloc(), &mut library, 5, &FILES) == Some(Ok(())));
+    assert!(rt; has(&library, (&[(4, 4)], &[2, 3, 5])));
+    Ok(())
+}
+
+// A manifest with the hash twice is counted and given up as a whole.
+#[test]
+fn named_twice(rt: HostRuntime) -> Result<(), Fail> {
+    let mut library = installed(rt.alloc()).ok_or("a library")?;
+    let steps: [Step; 9] = [
+        (Call::Begin(2, TWICE), Answer::Begun(2), (&[(2, 2)], &[1])),
+        (Call::Drop(2), Answer::Done, (&[], &[1])),
+        (Call::Begin(2, TWICE), Answer::Begun(3), (&[(3, 2)], &[1])),
+        (Call::Remove(1), Answer::Done, (&[(3, 2)], &[])),
+        (
+            Call::Begin(1, ONE),
+            Answer::Begun(4),
+            (&[(3, 2), (4, 1)], &[]),
+        ),
+        (Call::Finish(4), Answer::Done, (&[(3, 2)], &[1])),
+        (Call::Remove(1), Answer::Done, (&[(3, 2)], &[])),
+        (Call::Drop(3), Answer::Done, (&[], &[])),
+        (Call::Begin(2, ONE), Answer::Begun(5), (&[(5, 2)], &[])),
+    ];
+    assert!(rt; wrong(rt.alloc(), &mut library, &steps).is_none());
+    let steps: [Step; 1] = [(Call::Finish(5), Answer::NotStored(ABC), (&[(5, 2)], &[]))];
+    assert!(rt; wrong(rt.alloc(), &mut library, &steps).is_none());
+    let library = again(rt.alloc(), library).ok_or("opened")?;
+    assert!(rt; has(&library, (&[(5, 2)], &[])) && library.entries() == 1);
+    Ok(())
+}

@@ -1,0 +1,29 @@
+//! Calls one after another.
+use crate::calls::{Answer, Call, answered};
+use crate::libraries::{Rows, has, opened};
+use cm_disk::MemDisk;
+use cm_library::Library;
+use std::alloc::Global;
+
+/// A call, its answer, and the rows after it.
+pub(crate) type Step = (Call, Answer, Rows);
+
+/// The number of the first step that goes otherwise.
+pub(crate) fn wrong(
+    alloc: Global,
+    library: &mut Library<MemDisk>,
+    steps: &[Step],
+) -> Option<usize> {
+    for number in 0..steps.len() {
+        let (call, wanted, rows) = steps[number];
+        if answered(alloc, library, call) != Some(wanted) || !has(library, rows) {
+            return Some(number);
+        }
+    }
+    None
+}
+
+/// The library of the same disk, opened again.
+pub(crate) fn again(alloc: Global, library: Library<MemDisk>) -> Option<Library<MemDisk>> {
+    opened(alloc, library.close())
+}
