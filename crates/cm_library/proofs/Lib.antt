@@ -1,8 +1,10 @@
 pub mod AnyMoment
 pub mod EndChanges
 pub mod Keeps
+pub mod ManifestStored
 pub mod MapKept
 pub mod Naming
 pub mod PutSoFar
+pub mod Refused
 pub mod StoredTree
 pub mod Sure

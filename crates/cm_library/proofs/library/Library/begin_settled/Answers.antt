@@ -4,7 +4,6 @@ use Rattle.std.specs.Option.{ForSome}
 use Rattle.std.proofs.lemmas.Bool.{le-leb}
 use Rattle.cm_base.specs.declared.hash.Hash.{Hash}
 use Rattle.cm_disk.specs.Disk.{LeavesOnly}
-use Rattle.cm_disk.proofs.Moments.{started}
 use Rattle.cm_log.specs.Settled.{end_of}
 use Rattle.cm_pkglib.specs.declared.change.Change.{Change}
 use Rattle.cm_pkglib.specs.declared.counts.Seal.{Seal}
@@ -20,7 +19,6 @@ use Rattle.cm_state.specs.Faults.{begin_fault}
 use Rattle.cm_state.specs.Opens.{OpensOr, StandsOr, EachOpensSome}
 use Rattle.cm_state.specs.Needed.{is_needed}
 use Rattle.cm_state.specs.State.{State, rows_of}
-use Rattle.cm_state.proofs.ImagesOpen.{each_stands, each_opens}
 use Rattle.cm_state.proofs.Lists.{no_some}
 use Rattle.cm_state.proofs.Ready.{not_spent}
 use Rattle.cm_state.proofs.Rooms.{begun_room, begun_length}
@@ -31,6 +29,7 @@ use Rattle.cm_library.specs.Calls.{KeepsNeeded, KeepsSeals, StaysSame, Ends}
 use Rattle.cm_library.specs.Kept.{Seen, pending_in, AreSure, IsKept}
 use Rattle.cm_library.proofs.AnyMoment.{is_taken}
 use Rattle.cm_library.proofs.Keeps.{kept_taken}
+use Rattle.cm_library.proofs.Refused.{refused_stands, refused_opens}
 use Rattle.cm_library.proofs.Sure.{sure_same}
 use Rattle.cm_library.proofs.library.Library.begin_settled.Goals as goal
 use Rattle.cm_library.proofs.library.Library.begin_settled.Goals.{in-Ok-store_and_commit, in-Err-store_and_commit}
@@ -44,91 +43,37 @@ pub returns-in-Some-clause-stands : goal.returns-in-Some-clause-stands
 returns-in-Some-clause-stands g c =
     let d = g.D.Disk in
     let s = c.self.inside in
-    let state = s.contents.state in
-    let id = c.args.«package» in
-    let version = c.args.version in
-    let manifest = c.args.manifest in
-    let none = no_some (change_in s.contents.taken) s.pending (ap (λ (v : Seen g.row.D.Denot). v.pending) c.self.view_is ∙ c.requires) in
-    let all = subst (λ (p : Option Change). IsKept d.reads d.may_leave s.start.value s.disk s.log s.contents s.counts p) none c.self.invariant in
-    let kept = all.standing in
-    subst (λ (v : Seen g.row.D.Denot). ForSome (d.reads v.disk) (λ files. LeavesOnly d.moment d.left_since v.disk v.disk (StandsOr v.state (if_allowed (Begun v.state.next id version manifest) v.state)))) c.self.view_is
-    (λ x told. started d.moment d.left_since s.disk (StandsOr state (if_allowed (Begun state.next id version manifest) state))
-    (λ image left. inl (each_stands x (d.may_leave s.disk) s.log state kept.shelf (kept.stands x told) (kept.manifests x told) image (g.met.D.Disk.only_now s.disk image left))))
+    refused_stands d.reads d.may_leave d.moment d.left_since g.met.D.Disk.only_now s.start.value s.disk s.log s.contents s.counts s.pending c.args.self.now (λ state. if_allowed (Begun state.next c.args.«package» c.args.version c.args.manifest) state) c.self.view_is c.requires c.self.invariant c.args.self.now.disk (ap (λ (v : Seen g.row.D.Denot). v.disk) c.self.view_is)
 
 pub returns-in-Some-clause-opens : goal.returns-in-Some-clause-opens
 returns-in-Some-clause-opens g c =
     let d = g.D.Disk in
     let s = c.self.inside in
-    let state = s.contents.state in
-    let id = c.args.«package» in
-    let version = c.args.version in
-    let manifest = c.args.manifest in
-    let none = no_some (change_in s.contents.taken) s.pending (ap (λ (v : Seen g.row.D.Denot). v.pending) c.self.view_is ∙ c.requires) in
-    let all = subst (λ (p : Option Change). IsKept d.reads d.may_leave s.start.value s.disk s.log s.contents s.counts p) none c.self.invariant in
-    let kept = all.standing in
-    subst (λ (v : Seen g.row.D.Denot). EachOpensSome (d.may_leave v.start) → ForSome (d.reads v.disk) (λ files. LeavesOnly d.moment d.left_since v.disk v.disk (OpensOr v.state (if_allowed (Begun v.state.next id version manifest) v.state)))) c.self.view_is
-    (λ whole x told. started d.moment d.left_since s.disk (OpensOr state (if_allowed (Begun state.next id version manifest) state))
-    (λ image left. inl (each_opens x (d.may_leave s.disk) s.log state kept.shelf (kept.stands x told) (kept.manifests x told) (all.sure.versions whole x told) image (g.met.D.Disk.only_now s.disk image left))))
+    refused_opens d.reads d.may_leave d.moment d.left_since g.met.D.Disk.only_now s.start.value s.disk s.log s.contents s.counts s.pending c.args.self.now (λ state. if_allowed (Begun state.next c.args.«package» c.args.version c.args.manifest) state) c.self.view_is c.requires c.self.invariant c.args.self.now.disk (ap (λ (v : Seen g.row.D.Denot). v.disk) c.self.view_is)
 
 pub returns-in-Err-clause-stands : goal.returns-in-Err-clause-stands
 returns-in-Err-clause-stands g c =
     let d = g.D.Disk in
     let s = c.self.inside in
-    let state = s.contents.state in
-    let id = c.args.«package» in
-    let version = c.args.version in
-    let manifest = c.args.manifest in
-    let none = no_some (change_in s.contents.taken) s.pending (ap (λ (v : Seen g.row.D.Denot). v.pending) c.self.view_is ∙ c.requires) in
-    let all = subst (λ (p : Option Change). IsKept d.reads d.may_leave s.start.value s.disk s.log s.contents s.counts p) none c.self.invariant in
-    let kept = all.standing in
-    subst (λ (v : Seen g.row.D.Denot). ForSome (d.reads v.disk) (λ files. LeavesOnly d.moment d.left_since v.disk s.disk (StandsOr v.state (if_allowed (Begun v.state.next id version manifest) v.state)))) c.self.view_is
-    (λ x told. started d.moment d.left_since s.disk (StandsOr state (if_allowed (Begun state.next id version manifest) state))
-    (λ image left. inl (each_stands x (d.may_leave s.disk) s.log state kept.shelf (kept.stands x told) (kept.manifests x told) image (g.met.D.Disk.only_now s.disk image left))))
+    refused_stands d.reads d.may_leave d.moment d.left_since g.met.D.Disk.only_now s.start.value s.disk s.log s.contents s.counts s.pending c.args.self.now (λ state. if_allowed (Begun state.next c.args.«package» c.args.version c.args.manifest) state) c.self.view_is c.requires c.self.invariant s.disk refl
 
 pub returns-in-Err-clause-opens : goal.returns-in-Err-clause-opens
 returns-in-Err-clause-opens g c =
     let d = g.D.Disk in
     let s = c.self.inside in
-    let state = s.contents.state in
-    let id = c.args.«package» in
-    let version = c.args.version in
-    let manifest = c.args.manifest in
-    let none = no_some (change_in s.contents.taken) s.pending (ap (λ (v : Seen g.row.D.Denot). v.pending) c.self.view_is ∙ c.requires) in
-    let all = subst (λ (p : Option Change). IsKept d.reads d.may_leave s.start.value s.disk s.log s.contents s.counts p) none c.self.invariant in
-    let kept = all.standing in
-    subst (λ (v : Seen g.row.D.Denot). EachOpensSome (d.may_leave v.start) → ForSome (d.reads v.disk) (λ files. LeavesOnly d.moment d.left_since v.disk s.disk (OpensOr v.state (if_allowed (Begun v.state.next id version manifest) v.state)))) c.self.view_is
-    (λ whole x told. started d.moment d.left_since s.disk (OpensOr state (if_allowed (Begun state.next id version manifest) state))
-    (λ image left. inl (each_opens x (d.may_leave s.disk) s.log state kept.shelf (kept.stands x told) (kept.manifests x told) (all.sure.versions whole x told) image (g.met.D.Disk.only_now s.disk image left))))
+    refused_opens d.reads d.may_leave d.moment d.left_since g.met.D.Disk.only_now s.start.value s.disk s.log s.contents s.counts s.pending c.args.self.now (λ state. if_allowed (Begun state.next c.args.«package» c.args.version c.args.manifest) state) c.self.view_is c.requires c.self.invariant s.disk refl
 
 pub returns-in-Err-count_taken-clause-stands : goal.returns-in-Err-count_taken-clause-stands
 returns-in-Err-count_taken-clause-stands g c =
     let d = g.D.Disk in
     let s = c.self.inside in
-    let state = s.contents.state in
-    let id = c.args.«package» in
-    let version = c.args.version in
-    let manifest = c.args.manifest in
-    let none = no_some (change_in s.contents.taken) s.pending (ap (λ (v : Seen g.row.D.Denot). v.pending) c.self.view_is ∙ c.requires) in
-    let all = subst (λ (p : Option Change). IsKept d.reads d.may_leave s.start.value s.disk s.log s.contents s.counts p) none c.self.invariant in
-    let kept = all.standing in
-    subst (λ (v : Seen g.row.D.Denot). ForSome (d.reads v.disk) (λ files. LeavesOnly d.moment d.left_since v.disk s.disk (StandsOr v.state (if_allowed (Begun v.state.next id version manifest) v.state)))) c.self.view_is
-    (λ x told. started d.moment d.left_since s.disk (StandsOr state (if_allowed (Begun state.next id version manifest) state))
-    (λ image left. inl (each_stands x (d.may_leave s.disk) s.log state kept.shelf (kept.stands x told) (kept.manifests x told) image (g.met.D.Disk.only_now s.disk image left))))
+    refused_stands d.reads d.may_leave d.moment d.left_since g.met.D.Disk.only_now s.start.value s.disk s.log s.contents s.counts s.pending c.args.self.now (λ state. if_allowed (Begun state.next c.args.«package» c.args.version c.args.manifest) state) c.self.view_is c.requires c.self.invariant s.disk refl
 
 pub returns-in-Err-count_taken-clause-opens : goal.returns-in-Err-count_taken-clause-opens
 returns-in-Err-count_taken-clause-opens g c =
     let d = g.D.Disk in
     let s = c.self.inside in
-    let state = s.contents.state in
-    let id = c.args.«package» in
-    let version = c.args.version in
-    let manifest = c.args.manifest in
-    let none = no_some (change_in s.contents.taken) s.pending (ap (λ (v : Seen g.row.D.Denot). v.pending) c.self.view_is ∙ c.requires) in
-    let all = subst (λ (p : Option Change). IsKept d.reads d.may_leave s.start.value s.disk s.log s.contents s.counts p) none c.self.invariant in
-    let kept = all.standing in
-    subst (λ (v : Seen g.row.D.Denot). EachOpensSome (d.may_leave v.start) → ForSome (d.reads v.disk) (λ files. LeavesOnly d.moment d.left_since v.disk s.disk (OpensOr v.state (if_allowed (Begun v.state.next id version manifest) v.state)))) c.self.view_is
-    (λ whole x told. started d.moment d.left_since s.disk (OpensOr state (if_allowed (Begun state.next id version manifest) state))
-    (λ image left. inl (each_opens x (d.may_leave s.disk) s.log state kept.shelf (kept.stands x told) (kept.manifests x told) (all.sure.versions whole x told) image (g.met.D.Disk.only_now s.disk image left))))
+    refused_opens d.reads d.may_leave d.moment d.left_since g.met.D.Disk.only_now s.start.value s.disk s.log s.contents s.counts s.pending c.args.self.now (λ state. if_allowed (Begun state.next c.args.«package» c.args.version c.args.manifest) state) c.self.view_is c.requires c.self.invariant s.disk refl
 
 pub invariant_of-self-in-Err-count_taken : goal.invariant_of-self-in-Err-count_taken
 invariant_of-self-in-Err-count_taken g c =

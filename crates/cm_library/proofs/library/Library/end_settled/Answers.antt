@@ -1,9 +1,8 @@
-use Rattle.std.proofs.Common.{◌≡◌, ◌+◌, inl, inr, length, refl, sym, ◌∙◌, ap, subst}
+use Rattle.std.proofs.Common.{◌≡◌, ◌+◌, inr, length, refl, sym, ◌∙◌, ap, subst}
 use Rattle.std.specs.Prelude.{Option, None, Some, Result, option_map}
 use Rattle.std.specs.Option.{ForSome}
 use Rattle.cm_base.specs.declared.hash.Hash.{Hash}
 use Rattle.cm_disk.specs.Disk.{LeavesOnly}
-use Rattle.cm_disk.proofs.Moments.{started}
 use Rattle.cm_log.specs.Settled.{end_of}
 use Rattle.cm_pkglib.specs.declared.change.Change.{Change}
 use Rattle.cm_pkglib.specs.declared.counts.Seal.{Seal}
@@ -16,7 +15,6 @@ use Rattle.cm_state.specs.declared.fault.LibFault.{LibFault}
 use Rattle.cm_state.specs.Changes.{StateChange, record_of, changed, if_allowed}
 use Rattle.cm_state.specs.Opens.{OpensOr, StandsOr, EachOpensSome}
 use Rattle.cm_state.specs.State.{rows_of}
-use Rattle.cm_state.proofs.ImagesOpen.{each_stands, each_opens}
 use Rattle.cm_state.proofs.Lists.{no_some}
 use Rattle.cm_contents.specs.Contents.{InMemory, change_in}
 use Rattle.cm_contents.specs.Seals.{AreStored, end_fault}
@@ -24,6 +22,7 @@ use Rattle.cm_library.specs.Calls.{KeepsNeeded, Ends}
 use Rattle.cm_library.specs.Kept.{Seen, pending_in, IsKept}
 use Rattle.cm_library.proofs.AnyMoment.{is_taken}
 use Rattle.cm_library.proofs.EndChanges.{ending_in, ending_taken, ending_range, ending_may, end_free, end_stored}
+use Rattle.cm_library.proofs.Refused.{refused_stands, refused_opens}
 use Rattle.cm_library.proofs.library.Library.end_settled.Goals as goal
 use Rattle.cm_library.proofs.library.Library.end_settled.Goals.{in-Ok, in-Err}
 
@@ -31,25 +30,13 @@ pub returns-in-Some-clause-stands : goal.returns-in-Some-clause-stands
 returns-in-Some-clause-stands g c =
     let d = g.D.Disk in
     let s = c.self.inside in
-    let change = c.args.change.now in
-    let none = no_some (change_in s.contents.taken) s.pending (ap (λ (v : Seen g.row.D.Denot). v.pending) c.self.view_is ∙ c.requires.settled) in
-    let whole_kept = subst (λ (p : Option Change). IsKept d.reads d.may_leave s.start.value s.disk s.log s.contents s.counts p) none c.self.invariant in
-    let kept = whole_kept.standing in
-    subst (λ (v : Seen g.row.D.Denot). ForSome (d.reads v.disk) (λ files. LeavesOnly d.moment d.left_since v.disk v.disk (StandsOr v.state (if_allowed (change_in None change) v.state)))) c.self.view_is
-    (λ x told. started d.moment d.left_since s.disk (StandsOr s.contents.state (if_allowed (change_in None change) s.contents.state))
-    (λ image left. inl (each_stands x (d.may_leave s.disk) s.log s.contents.state kept.shelf (kept.stands x told) (kept.manifests x told) image (g.met.D.Disk.only_now s.disk image left))))
+    refused_stands d.reads d.may_leave d.moment d.left_since g.met.D.Disk.only_now s.start.value s.disk s.log s.contents s.counts s.pending c.args.self.now (if_allowed (change_in None c.args.change.now)) c.self.view_is c.requires.settled c.self.invariant c.args.self.now.disk (ap (λ (v : Seen g.row.D.Denot). v.disk) c.self.view_is)
 
 pub returns-in-Some-clause-opens : goal.returns-in-Some-clause-opens
 returns-in-Some-clause-opens g c =
     let d = g.D.Disk in
     let s = c.self.inside in
-    let change = c.args.change.now in
-    let none = no_some (change_in s.contents.taken) s.pending (ap (λ (v : Seen g.row.D.Denot). v.pending) c.self.view_is ∙ c.requires.settled) in
-    let whole_kept = subst (λ (p : Option Change). IsKept d.reads d.may_leave s.start.value s.disk s.log s.contents s.counts p) none c.self.invariant in
-    let kept = whole_kept.standing in
-    subst (λ (v : Seen g.row.D.Denot). EachOpensSome (d.may_leave v.start) → ForSome (d.reads v.disk) (λ files. LeavesOnly d.moment d.left_since v.disk v.disk (OpensOr v.state (if_allowed (change_in None change) v.state)))) c.self.view_is
-    (λ whole x told. started d.moment d.left_since s.disk (OpensOr s.contents.state (if_allowed (change_in None change) s.contents.state))
-    (λ image left. inl (each_opens x (d.may_leave s.disk) s.log s.contents.state kept.shelf (kept.stands x told) (kept.manifests x told) (whole_kept.sure.versions whole x told) image (g.met.D.Disk.only_now s.disk image left))))
+    refused_opens d.reads d.may_leave d.moment d.left_since g.met.D.Disk.only_now s.start.value s.disk s.log s.contents s.counts s.pending c.args.self.now (if_allowed (change_in None c.args.change.now)) c.self.view_is c.requires.settled c.self.invariant c.args.self.now.disk (ap (λ (v : Seen g.row.D.Denot). v.disk) c.self.view_is)
 
 pub commit-requires-clause-stored : goal.commit-requires-clause-stored
 commit-requires-clause-stored g c =
