@@ -1,15 +1,17 @@
 -- The places of names in lists.
-use Rattle.std.proofs.Common.{◌≡◌, ℕ, suc, zero, ◌+◌, ◌<◌, ◌≤◌, Bool, true, false, cond, List, [], ◌∷◌, length, take, drop, get_or, Option, None, Some, IfSome, is_some, ◌||◌, nat_lt, refl, sym, ap, ◌∙◌, arith, drop-cons, map, position}
-use Rattle.std.specs.List.{list_any, position_from, find, slice_get}
+use Rattle.std.proofs.Common.{◌≡◌, ℕ, suc, zero, ◌+◌, ◌<◌, ◌≤◌, Bool, true, false, cond, List, [], ◌∷◌, length, take, drop, get_or, Option, None, Some, IfSome, is_some, ◌||◌, nat_lt, refl, sym, ap, ◌∙◌, arith, drop-cons, map, position, ◌++◌}
+use Rattle.std.specs.Cmp.{IsEquivalence}
+use Rattle.std.specs.List.{cons_option, filter_map, list_any, position_from, find, slice_get}
 use Rattle.std.specs.Ordering.{is_eq}
 use Rattle.std.specs.declared.cmp.Ordering.{Ordering}
 use Rattle.std.specs.Str.{bytes_eq}
 use Rattle.std.proofs.lemmas.Iterator.Adapters.{position_from-zero}
-use Rattle.std.proofs.lemmas.List.{length-map}
+use Rattle.std.proofs.lemmas.List.{get_or-map, length-map, take_more}
+use Rattle.std.proofs.lemmas.List.Elements.{filter_map-append}
 use Rattle.std.proofs.lemmas.List.Quantifiers.{position-Some}
 use Rattle.std.proofs.lemmas.Bool.{true≢false}
 use Rattle.std.proofs.lemmas.Option.{none-some, same_Some, slice_get-get_or}
-use Rattle.cm_groups.specs.Names.{place_of}
+use Rattle.cm_groups.specs.Names.{first_places, place_of}
 
 -- the place is found, and before that one
 abbrev pub is_below : Option ℕ → ℕ → Bool
@@ -107,3 +109,28 @@ row_missing {Y} rows names name are at =
     let p : List ℕ → Bool = λ other. bytes_eq other name in
     let first : List ℕ × Y → List ℕ = λ row. row.0 in
     none_from p 0 rows (sym (at ∙ position_from-zero p names ∙ ap (λ (xs : List (List ℕ)). position_from p 0 xs) are))
+
+-- a name that is the same is found at the same place
+tests_alike : {K : Type 0} (p q : K → Bool) (n : ℕ) (names : List K) → ((name : K) → p name ≡ q name) → position_from p n names ≡ position_from q n names
+tests_alike p q n [] alike = refl
+tests_alike p q n (name ∷ names) alike = rw (alike name, tests_alike p q (n + 1) names alike) refl
+
+same_place : {K : Type 0} (same : K → K → Bool) → IsEquivalence same → (names : List K) (one other : K) → same one other ≡ true → position (λ each. same each one) names ≡ position (λ each. same each other) names
+same_place {K} same laws names one other e =
+    let p : K → Bool = λ each. same each one in
+    let q : K → Bool = λ each. same each other in
+    position_from-zero p names ∙ (tests_alike p q 0 names (λ each. laws.symm each one ∙ (laws.congr one other each e ∙ laws.symm other each)) ∙ sym (position_from-zero q names))
+
+-- the first place of a name that stands at a likely place
+pub near_place : {K : Type 0} (same : K → K → Bool) → IsEquivalence same → (all names : List K) (firsts : List (Option ℕ)) (near : ℕ) (name found : K) (first : Option ℕ)
+    → all ≡ names → firsts ≡ first_places same names names → near < length names → found ≡ get_or names near found → same found name ≡ true → first ≡ get_or firsts near first
+    → first ≡ position (λ each. same each name) all
+near_place {K} same laws all names firsts near name found first seen are lt is e at =
+    let p : K → Option ℕ = λ each. position (λ other. same other each) names in
+    rw seen (at ∙ (ap (λ (places : List (Option ℕ)). get_or places near first) are ∙ (get_or-map p names near found first lt ∙ (ap p (sym is) ∙ same_place same laws names found name e))))
+
+-- what one name more finds
+pub found_more : {X Y : Type 0} (h : X → Option Y) (xs : List X) (i : ℕ) (x : X) (found : List Y) (o : Option Y)
+    → i < length xs → x ≡ get_or xs i x → found ≡ filter_map h (take i xs) → o ≡ h x → found ++ cons_option o [] ≡ filter_map h (take (i + 1) xs)
+found_more {X} {Y} h xs i x found o lt is was more =
+    rw (take_more xs i x lt, ← is, filter_map-append h (take i xs) (x ∷ []), was, more) refl

@@ -12,18 +12,26 @@ use cm_base::{Label, List, Memory, ServerName};
 use cm_net::Boundary;
 use std::alloc::{AllocError, Global};
 
-/// The boundary of that name.
-fn boundary_of(names: &Names<Label>, rows: &[(Label, Boundary)], name: &Label) -> Option<Boundary>
+/// The boundary of that name, looked for at the likely place: after it, that is the one behind.
+fn boundary_of(
+    names: &Names<Label>,
+    rows: &[(Label, Boundary)],
+    likely: &mut usize,
+    name: &Label,
+) -> Option<Boundary>
     requires { names.now ≡ names_of_rows rows.now }
     ensures { result ≡ boundary_of rows.now name.now }
 {
-    match names.place(name) {
-        Some(place) => Some(rows[place].1),
+    match names.place_near(*likely, name) {
+        Some(place) => {
+            *likely = place + 1;
+            Some(rows[place].1)
+        }
         None => None,
     }
 }
 
-/// The boundaries of these names.
+/// The boundaries of these names, which mostly stand in the order of the rows.
 fn boundaries_of(
     alloc: Global,
     names: &Names<Label>,
@@ -33,10 +41,15 @@ fn boundaries_of(
     requires { names.now ≡ names_of_rows rows.now }
     ensures { IfOk result (λ found. found.items ≡ filter_map (λ name. boundary_of rows.now name) wanted.now) }
 {
-    wanted
-        .iter()
-        .filter_map(|name| boundary_of(names, rows, name))
-        .collect(alloc)
+    let mut found = Vec::new(alloc);
+    found.reserve(wanted.len())?;
+    let mut likely = 0;
+    for name in wanted {
+        if let Some(boundary) = boundary_of(names, rows, &mut likely, name) {
+            found.push(boundary)?;
+        }
+    }
+    Ok(found)
 }
 
 /// The relation by the number of the group.

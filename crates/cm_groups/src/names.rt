@@ -1,7 +1,7 @@
 //! Names that are found by a map.
 ghost use Rattle.std.specs.Prelude.{◌≡◌, ◌<◌, IfOk, IfSome, length, position, take};
 ghost use Rattle.std.specs.List.{list_any};
-ghost use Rattle.cm_groups.specs.Names.{HasPlaces};
+ghost use Rattle.cm_groups.specs.Names.{HasPlaces, first_places};
 ghost use Rattle.cm_groups.specs.Texts.{group_names, names_of_rows};
 
 use crate::{GroupText, SiteCode};
@@ -16,17 +16,20 @@ use std::marker::Model;
 pub struct Names<K: Ord + Copy + Drop> {
     names: Vec<K>,
     places: BTreeMap<K, usize>,
+    /// At each place, the first one that has its name.
+    firsts: Vec<Option<usize>>,
 }
 
 impl<K: Ord + Copy + Drop> Model for Names<K> {
-    ghost use Rattle.std.specs.Prelude.{List};
-    ghost use Rattle.cm_groups.specs.Names.{HasPlaces};
+    ghost use Rattle.std.specs.Prelude.{◌≡◌, List};
+    ghost use Rattle.cm_groups.specs.Names.{HasPlaces, first_places};
 
     ghost Value = { List K };
 
     ghost view = { λ names. names.names.items };
 
-    ghost invariant = { λ names. HasPlaces ⟦<K as PartialEq>⟧.eq K.cmp names.names.items names.places };
+    ghost invariant = { λ names. HasPlaces ⟦<K as PartialEq>⟧.eq K.cmp names.names.items names.places
+        × (names.firsts.items ≡ first_places ⟦<K as PartialEq>⟧.eq names.names.items names.names.items) };
 }
 
 /// The first place of each name.
@@ -38,6 +41,22 @@ fn places_of<K: Ord + Copy + Drop>(alloc: Global, names: &[K]) -> Result<BTreeMa
         places.insert(names[i], i)?;
     }
     Ok(places)
+}
+
+/// At each place of a name, the first one that has it.
+fn firsts_of<K: Ord + Copy + Drop>(
+    alloc: Global,
+    names: &[K],
+    places: &BTreeMap<K, usize>,
+) -> Result<Vec<Option<usize>>, Memory>
+    requires { HasPlaces ⟦<K as PartialEq>⟧.eq K.cmp names.now places.now }
+    ensures { IfOk result (λ firsts. firsts.items ≡ first_places ⟦<K as PartialEq>⟧.eq names.now names.now) }
+{
+    let mut firsts = Vec::new(alloc);
+    for name in names {
+        firsts.push(places.get(name).copied())?;
+    }
+    Ok(firsts)
 }
 
 /// The names of rows.
@@ -53,7 +72,12 @@ impl<K: Ord + Copy + Drop> Names<K> {
         ensures { IfOk result (λ made. made ≡ names.items) }
     {
         let places = places_of(alloc, &names)?;
-        Ok(Names { names, places })
+        let firsts = firsts_of(alloc, &names, &places)?;
+        Ok(Names {
+            names,
+            places,
+            firsts,
+        })
     }
 
     /// The names in order.
@@ -69,6 +93,17 @@ impl<K: Ord + Copy + Drop> Names<K> {
         ensures within { IfSome result (λ place. place < length self.now) }
     {
         self.places.get(name).copied()
+    }
+
+    /// The place of the first entry that has the name, looked for at a likely place before it is searched.
+    pub(crate) fn place_near(&self, near: usize, name: &K) -> Option<usize>
+        ensures place { result ≡ position (λ other. ⟦<K as PartialEq>⟧.eq other name.now) self.now }
+        ensures within { IfSome result (λ place. place < length self.now) }
+    {
+        if near < self.names.len() && self.names[near] == *name {
+            return self.firsts[near];
+        }
+        self.place(name)
     }
 
     /// Whether an entry has the name.
