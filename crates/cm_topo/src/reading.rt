@@ -159,13 +159,14 @@ fn checked(alloc: Global, text: TopologyText) -> Result<Topology, Placed>
     Ok(topology_of(alloc, &known, text, held)?)
 }
 
-/// The topology of a document, or its first fault.
-fn topology_in(alloc: Global, table: &Table) -> Result<Topology, Placed>
-    ensures said { IfOk result (λ topology. both_passes (table_view table.now) ≡ Ok topology) }
-    ensures wrong { IfErr result (λ placed. placed.trouble ≢ Memory → both_passes (table_view table.now) ≡ Err placed) }
+/// The topology of a document, or its first fault. The memory of the document is there again for the topology.
+fn topology_in(alloc: Global, table: Table) -> Result<Topology, Placed>
+    ensures said { IfOk result (λ topology. both_passes (table_view table) ≡ Ok topology) }
+    ensures wrong { IfErr result (λ placed. placed.trouble ≢ Memory → both_passes (table_view table) ≡ Err placed) }
 {
-    let sites = groups_of(alloc, table)?;
-    let servers = servers_of(alloc, table)?;
+    let sites = groups_of(alloc, &table)?;
+    let servers = servers_of(alloc, &table)?;
+    drop(table);
     checked(alloc, TopologyText { sites, servers })
 }
 
@@ -184,7 +185,7 @@ pub fn read_topology(alloc: Global, bytes: &[u8]) -> Result<Topology, TopoFault>
             return Err(TopoFault::NotToml);
         }
     };
-    match topology_in(alloc, &table) {
+    match topology_in(alloc, table) {
         Ok(topology) => Ok(topology),
         Err(placed) => Err(placed.fault()),
     }
