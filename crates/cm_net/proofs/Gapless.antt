@@ -8,11 +8,11 @@ use Rattle.cm_net.specs.declared.span.Span.{Span}
 use Rattle.cm_net.specs.Boundaries.{is_between}
 use Rattle.cm_net.specs.Spans.{AreSegmentsOf, GoesOn, is_held, is_in, numbers_at}
 
--- one span more, behind spans that hold the same
-pub held_more : (xs ys : List Span) (s : Span) (a g : ℕ) → is_held xs a g ≡ is_held ys a g → is_held (xs ++ s ∷ []) a g ≡ is_held (ys ++ s ∷ []) a g
-held_more xs ys s a g same =
+-- spans added behind spans that hold the same
+pub held_behind : (xs ys new ss : List Span) (a g : ℕ) → is_held new a g ≡ is_held (xs ++ ss) a g → is_held xs a g ≡ is_held ys a g → is_held new a g ≡ is_held (ys ++ ss) a g
+held_behind xs ys new ss a g is same =
     let test : Span → Bool = λ span. is_in a span && span.group == g in
-    list_any-append test xs (s ∷ []) ∙ ap (λ (b : Bool). b || list_any test (s ∷ [])) same ∙ sym (list_any-append test ys (s ∷ []))
+    is ∙ list_any-append test xs ss ∙ ap (λ (b : Bool). b || list_any test ss) same ∙ sym (list_any-append test ys ss)
 
 -- a range that goes on where another one stands, as one range
 both_ranges : (a b c d x : ℕ) → a ≤ c → c ≤ b + 1 → is_between a (max b d) x ≡ (is_between a b x || is_between c d x)

@@ -9,8 +9,18 @@ use Rattle.cm_net.specs.declared.entry.Entry.{Entry}
 use Rattle.cm_net.specs.Boundaries.{holds_address, is_four, is_six, is_site, is_of_family, rows_of}
 use Rattle.cm_net.specs.Entries.{keys_in}
 use Rattle.cm_net.specs.Groups.{numbers_of, IsRisingOf}
-use Rattle.cm_net.specs.Spans.{groups_at}
+use Rattle.cm_net.specs.declared.span.Span.{Span}
+use Rattle.cm_net.specs.Spans.{groups_at, is_held, numbers_at}
 use Rattle.cm_net.specs.Sites.{AreSitesOf}
+
+-- Spans that hold the addresses of one family, each for the groups of the rows that hold it: no more than one for each row of the
+-- family would be.
+pub record AreSpansOf (end : ℕ) (address_of : ℕ → Address) (is_family : Boundary → Bool) (rows : List (Boundary × ℕ)) (spans : List Span) : Type 0 where
+  pub each : List Span
+  pub counted : length each ≡ rows_of is_family rows
+  pub right : (address : ℕ) → address < end → numbers_at each address ≡ numbers_of (λ boundary. holds_address boundary (address_of address)) rows
+  pub same : (address group : ℕ) → is_held spans address group ≡ is_held each address group
+  pub few : length spans ≤ length each
 
 -- The segments of one family, in order: for each address below the end they have the numbers of the rows that hold it, and each
 -- row of the family makes two more at most.

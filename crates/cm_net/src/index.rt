@@ -3,10 +3,11 @@ ghost use Rattle.std.specs.Prelude.{◌≡◌, ◌++◌, ℕ, ◌+◌, ◌*◌, 
 ghost use Rattle.std.specs.Option.{option_copied};
 ghost use Rattle.cm_net.specs.Boundaries.{holds_address, holds_site, is_four, is_of_family, is_site, is_six, IsSound, rows_of};
 ghost use Rattle.cm_net.specs.Groups.{numbers_of, IsRisingOf};
-ghost use Rattle.cm_net.specs.Indexed.{AreFewSteps};
-ghost use Rattle.cm_net.specs.Spans.{numbers_at, spans_of};
+ghost use Rattle.cm_net.specs.Indexed.{AreFewSteps, AreSpansOf};
+ghost use Rattle.cm_net.specs.Spans.{is_held, spans_of};
 
 use crate::entry::Entry;
+use crate::joining::add_joined;
 use crate::segments::{groups_at, segments_of};
 use crate::sites::{groups_of_site, sites_of};
 use crate::span::{Span, ends4, ends6};
@@ -41,20 +42,19 @@ impl Model for Index {
 
 /// Adds the span from the one end to the other, where there are ends.
 fn add_span(spans: &mut Vec<Span>, ends: Option<(u128, u128)>, group: u16) -> Result<(), AllocError>
-    ensures { OnOk result (spans.new.items ≡ spans.old.items ++ spans_of ends group) }
+    ensures same { OnOk result ((address number : ℕ) → is_held spans.new.items address number ≡ is_held (spans.old.items ++ spans_of ends group) address number) }
+    ensures few { OnOk result (length spans.new.items ≤ length spans.old.items + length (spans_of ends group)) }
 {
     if let Some((first, last)) = ends {
-        spans.push(Span { first, last, group })?;
+        add_joined(spans, Span { first, last, group })?;
     }
     Ok(())
 }
 
-/// The spans of the IPv4 addresses of the rows, in the order of the rows.
+/// The spans of the IPv4 addresses of the rows.
 fn spans4(alloc: Global, rows: &[(Boundary, u16)]) -> Result<Vec<Span>, AllocError>
     requires { All (λ row. IsSound row.0) rows.now }
-    ensures few { IfOk result (λ spans. length spans.items ≡ rows_of is_four rows.now) }
-    ensures numbers { IfOk result (λ spans. (address : ℕ) → address < 2 ^ 32
-        → numbers_at spans.items address ≡ numbers_of (λ boundary. holds_address boundary (Address.V4 address)) rows.now) }
+    ensures { IfOk result (λ spans. AreSpansOf (2 ^ 32) (λ address. Address.V4 address) is_four rows.now spans.items) }
 {
     let mut spans = Vec::new(alloc);
     for (boundary, group) in rows {
@@ -63,12 +63,10 @@ fn spans4(alloc: Global, rows: &[(Boundary, u16)]) -> Result<Vec<Span>, AllocErr
     Ok(spans)
 }
 
-/// The spans of the IPv6 addresses of the rows, in the order of the rows.
+/// The spans of the IPv6 addresses of the rows.
 fn spans6(alloc: Global, rows: &[(Boundary, u16)]) -> Result<Vec<Span>, AllocError>
     requires { All (λ row. IsSound row.0) rows.now }
-    ensures few { IfOk result (λ spans. length spans.items ≡ rows_of is_six rows.now) }
-    ensures numbers { IfOk result (λ spans. (address : ℕ) → address < 2 ^ 128
-        → numbers_at spans.items address ≡ numbers_of (λ boundary. holds_address boundary (Address.V6 address)) rows.now) }
+    ensures { IfOk result (λ spans. AreSpansOf (2 ^ 128) (λ address. Address.V6 address) is_six rows.now spans.items) }
 {
     let mut spans = Vec::new(alloc);
     for (boundary, group) in rows {

@@ -3,7 +3,7 @@ ghost use Rattle.std.specs.Prelude.{◌≡◌, ◌++◌, ◌∷◌, [], ◌+◌,
 ghost use Rattle.cm_net.specs.Spans.{GoesOn, is_held};
 
 use crate::span::Span;
-use std::alloc::{AllocError, Global};
+use std::alloc::AllocError;
 
 /// Whether the span is of the group of the one before, begins in it or later, and leaves no gap.
 fn goes_on(before: &Span, span: &Span) -> bool
@@ -31,20 +31,16 @@ fn with_span(others: &mut Vec<Span>, last: Span, span: Span) -> Result<Span, All
     Ok(span)
 }
 
-/// The same addresses of the same groups, by one span where one leaves no gap behind the one before it. So the names of ranges
-/// that stand in their order make few spans.
-pub(crate) fn joined(alloc: Global, spans: &[Span]) -> Result<Vec<Span>, AllocError>
-    ensures same { IfOk result (λ joined. (address group : ℕ) → is_held joined.items address group ≡ is_held spans.now address group) }
-    ensures few { IfOk result (λ joined. length joined.items ≤ length spans.now) }
+/// Adds the span: as one with the last where it leaves no gap behind it, or else by itself. So the names of ranges that stand in
+/// their order make few spans.
+pub(crate) fn add_joined(spans: &mut Vec<Span>, span: Span) -> Result<(), AllocError>
+    ensures same { OnOk result ((address group : ℕ) → is_held spans.new.items address group ≡ is_held (spans.old.items ++ span ∷ []) address group) }
+    ensures few { OnOk result (length spans.new.items ≤ length spans.old.items + 1) }
 {
-    let mut joined = Vec::new(alloc);
-    if spans.is_empty() {
-        return Ok(joined);
-    }
-    let mut last = spans[0];
-    for i in 1..spans.len() {
-        last = with_span(&mut joined, last, spans[i])?;
-    }
-    joined.push(last)?;
-    Ok(joined)
+    let end = match spans.pop() {
+        Some(last) => with_span(spans, last, span)?,
+        None => span,
+    };
+    spans.push(end)?;
+    Ok(())
 }

@@ -8,7 +8,6 @@ ghost use Rattle.cm_net.specs.Spans.{groups_at, AreSegmentsOf};
 use crate::Steps;
 use crate::entry::Entry;
 use crate::halves::place_of;
-use crate::joining::joined;
 use crate::reaches::{begun_at, groups_reaching};
 use crate::span::Span;
 use crate::turns::turns_of;
@@ -30,7 +29,7 @@ fn by_first(spans: Vec<Span>) -> Vec<Span>
 /// The segments between the ends of the spans, from address 0 on: each is its first address with the numbers of the groups
 /// that have it. One walk over the spans: at each end, those that begin there let their groups reach farther, and the groups
 /// of the segment are those that reach to it.
-fn segments_between(alloc: Global, spans: Vec<Span>) -> Result<Vec<Entry<u128>>, Memory>
+pub(crate) fn segments_of(alloc: Global, spans: Vec<Span>) -> Result<Vec<Entry<u128>>, Memory>
     ensures { IfOk result (λ segments. AreSegmentsOf spans.items segments.items) }
 {
     let turns = turns_of(alloc, &spans)?;
@@ -44,14 +43,6 @@ fn segments_between(alloc: Global, spans: Vec<Span>) -> Result<Vec<Entry<u128>>,
         segments.push(Entry::new(*start, groups))?;
     }
     Ok(segments)
-}
-
-/// The segments of spans, which are made few before.
-pub(crate) fn segments_of(alloc: Global, spans: Vec<Span>) -> Result<Vec<Entry<u128>>, Memory>
-    ensures { IfOk result (λ segments. AreSegmentsOf spans.items segments.items) }
-{
-    let few = joined(alloc, &spans)?;
-    segments_between(alloc, few)
 }
 
 /// The groups of the segment that has the address.

@@ -2,7 +2,7 @@ use Rattle.std.proofs.Common.{◌≡◌, ◌≤◌, length, take}
 use Rattle.cm_net.specs.Entries.{keys_in}
 use Rattle.cm_net.specs.Spans.{AreReachesOf}
 use Rattle.cm_net.proofs.Turning.{AreRightBefore, HaveBegun}
-use Rattle.cm_net.proofs.segments.segments_between.Given as goal
+use Rattle.cm_net.proofs.segments.segments_of.Given as goal
 
 abbrev pub invariant-loop-start : goal.invariant-loop-start
 invariant-loop-start l =
