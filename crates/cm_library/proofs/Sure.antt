@@ -60,7 +60,7 @@ stored_sure may_leave hash size None is sure = absurd (false≢true is)
 stored_sure may_leave hash size (Some seal) is sure = subst (IsFileSure may_leave hash) (eqb-true seal.size size is) sure
 
 -- so a change brings the files of its version
-pub brings_of : (may_leave : List ℕ → File → Type 0) (counts : Counts) (s : State) (change : StateChange) → AreStored (sealed_of counts) change s → AreSealsSure may_leave counts → BringsFiles may_leave s change
+pub brings_of : (may_leave : List ℕ → File → Type 0) (counts : Counts) (s : State) (change : StateChange) → AreStored (sealed_of counts) change s → AreSealsSure may_leave (sealed_of counts) → BringsFiles may_leave s change
 brings_of may_leave counts s (Begun job id version manifest) stored sure = tt
 brings_of may_leave counts s (Finished job) stored sure = by (held_by_job job s.jobs) stored
   where

@@ -63,18 +63,18 @@ pub record IsStanding {D : Type 0} (reads : D → Option Files) (may_leave : D �
   pub manifests : ForSome (reads disk) (λ _. AreManifestsSure (may_leave disk) memory.state)
 
 -- a sealed hash has its file, whatever a crash leaves
-abbrev pub AreSealsSure : (List ℕ → File → Type 0) → Counts → Type 0
-AreSealsSure may_leave counts = (hash : Hash) → IfSome (sealed_of counts hash) (λ seal. IsFileSure may_leave hash.0 seal.size)
+abbrev pub AreSealsSure : (List ℕ → File → Type 0) → (Hash → Option Seal) → Type 0
+AreSealsSure may_leave seals = (hash : Hash) → IfSome (seals hash) (λ seal. IsFileSure may_leave hash.0 seal.size)
 
 -- the same of those that were sealed since the opening
-abbrev pub AreSealsSureSince : (List ℕ → File → Type 0) → Counts → Type 0
-AreSealsSureSince may_leave counts = (hash : Hash) → IfSome (sealed_of counts hash) (λ seal. seal.since ≡ true → IsFileSure may_leave hash.0 seal.size)
+abbrev pub AreSealsSureSince : (List ℕ → File → Type 0) → (Hash → Option Seal) → Type 0
+AreSealsSureSince may_leave seals = (hash : Hash) → IfSome (seals hash) (λ seal. seal.since ≡ true → IsFileSure may_leave hash.0 seal.size)
 
 -- What is sure of the stored files, where the disk tells what reads give: those sealed since the opening; and where each image opened to
 -- some state at the opening, all that are sealed and those of the versions.
 pub record AreSure {D : Type 0} (reads : D → Option Files) (may_leave : D → List ℕ → File → Type 0) (start disk : D) (state : State) (counts : Counts) : Type 0 where
-  pub since : ForSome (reads disk) (λ _. AreSealsSureSince (may_leave disk) counts)
-  pub seals : EachOpensSome (may_leave start) → ForSome (reads disk) (λ _. AreSealsSure (may_leave disk) counts)
+  pub since : ForSome (reads disk) (λ _. AreSealsSureSince (may_leave disk) (sealed_of counts))
+  pub seals : EachOpensSome (may_leave start) → ForSome (reads disk) (λ _. AreSealsSure (may_leave disk) (sealed_of counts))
   pub versions : EachOpensSome (may_leave start) → ForSome (reads disk) (λ _. AreVersionsSure (may_leave disk) state)
 
 -- What the type keeps: the library stands, each hash is counted, the entries of a job whose end is pending are stored, and what is sealed

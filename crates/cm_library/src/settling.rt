@@ -8,6 +8,8 @@ ghost use Rattle.cm_state.specs.Look.{Opened, look};
 ghost use Rattle.cm_state.specs.Opens.{OpensOr, StandsOr, EachOpensSome};
 ghost use Rattle.cm_state.specs.Sound.{IsSound};
 ghost use Rattle.cm_library.specs.Calls.{Finds, StaysUnsettled, Tells};
+ghost use Rattle.cm_library.specs.Kept.{AreSealsSure, AreSealsSureSince};
+ghost use Rattle.cm_pkglib.specs.Counts.{seal_at};
 
 use crate::commits::settle_pending;
 use crate::library::Library;
@@ -41,12 +43,15 @@ impl<D: Disk> Library<D> {
     }
 
     /// Says, to contracts alone, what a crash leaves now: the library in its state, or where a call has failed in that before its
-    /// change or after it; with each file of its versions, where each image opened to some state at the opening.
+    /// change or after it. The file of each hash that was sealed since the opening is whole; and where each image opened to some state
+    /// at the opening, so are those of all sealed hashes and of the versions.
     pub fn tells(&self)
         ensures sound { IsSound self.now.state }
         ensures files { ForSome (D.reads self.now.disk) (λ files. self.now.pending ≡ None → look files ≡ Opened self.now.state) }
         ensures stands { ForSome (D.reads self.now.disk) (λ _. (image : Files) → IsImage (D.may_leave self.now.disk) image → StandsOr self.now.state self.now.pending image) }
         ensures opens { EachOpensSome (D.may_leave self.now.start) → ForSome (D.reads self.now.disk) (λ _. (image : Files) → IsImage (D.may_leave self.now.disk) image → OpensOr self.now.state self.now.pending image) }
+        ensures since { ForSome (D.reads self.now.disk) (λ _. AreSealsSureSince (D.may_leave self.now.disk) (seal_at self.now.seals)) }
+        ensures sealed { EachOpensSome (D.may_leave self.now.start) → ForSome (D.reads self.now.disk) (λ _. AreSealsSure (D.may_leave self.now.disk) (seal_at self.now.seals)) }
     {
         let _log = &self.log;
     }

@@ -1,9 +1,14 @@
 use Rattle.std.proofs.Common.{◌≡◌, subst, None}
+use Rattle.std.specs.Prelude.{Option}
 use Rattle.std.specs.Option.{ForSome}
+use Rattle.cm_base.specs.declared.hash.Hash.{Hash}
 use Rattle.cm_disk.specs.Disk.{Files, IsImage}
+use Rattle.cm_pkglib.specs.declared.counts.Seal.{Seal}
+use Rattle.cm_pkglib.specs.Counts.{seal_at}
+use Rattle.cm_pkglib.proofs.Times.{seals_are}
 use Rattle.cm_state.specs.Look.{Opened, look}
 use Rattle.cm_state.specs.Opens.{OpensOr, StandsOr, EachOpensSome}
-use Rattle.cm_library.specs.Kept.{Seen}
+use Rattle.cm_library.specs.Kept.{Seen, AreSealsSure, AreSealsSureSince}
 use Rattle.cm_library.proofs.Keeps.{kept_files, kept_stands}
 use Rattle.cm_library.proofs.Sure.{kept_opens}
 use Rattle.cm_library.proofs.library.Library.tells.Goals as goal
@@ -28,3 +33,17 @@ returns-clause-opens g c =
     let s = c.self.inside in
     subst (λ (v : Seen g.row.D.Denot). EachOpensSome (d.may_leave v.start) → ForSome (d.reads v.disk) (λ files. (image : Files) → IsImage (d.may_leave v.disk) image → OpensOr v.state v.pending image)) c.self.view_is
     (kept_opens d.reads d.may_leave s.start.value s.disk s.log s.contents s.counts s.pending c.self.invariant)
+
+pub returns-clause-since : goal.returns-clause-since
+returns-clause-since g c =
+    let d = g.D.Disk in
+    let s = c.self.inside in
+    subst (λ (v : Seen g.row.D.Denot). ForSome (d.reads v.disk) (λ _. AreSealsSureSince (d.may_leave v.disk) (seal_at v.seals))) c.self.view_is
+    (subst (λ (f : Hash → Option Seal). ForSome (d.reads s.disk) (λ _. AreSealsSureSince (d.may_leave s.disk) f)) (seals_are s.counts) c.self.invariant.sure.since)
+
+pub returns-clause-sealed : goal.returns-clause-sealed
+returns-clause-sealed g c =
+    let d = g.D.Disk in
+    let s = c.self.inside in
+    subst (λ (v : Seen g.row.D.Denot). EachOpensSome (d.may_leave v.start) → ForSome (d.reads v.disk) (λ _. AreSealsSure (d.may_leave v.disk) (seal_at v.seals))) c.self.view_is
+    (subst (λ (f : Hash → Option Seal). EachOpensSome (d.may_leave s.start.value) → ForSome (d.reads s.disk) (λ _. AreSealsSure (d.may_leave s.disk) f)) (seals_are s.counts) c.self.invariant.sure.seals)
