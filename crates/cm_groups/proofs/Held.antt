@@ -55,17 +55,26 @@ pub joined_all : (names : List (List ℕ)) (rows : List (List ℕ × Boundary)) 
 joined_all names rows [] = refl
 joined_all names rows (text ∷ texts) = ap (λ (groups : List Group). group_of names rows text ∷ groups) (joined_all names rows texts)
 
+-- lists beside their numbers are joined as they are
+joined_lists : (texts : List GroupText) (lists : List (List Boundary × ℕ)) (leads : List (List (ℕ × Fallback)))
+    → map (λ row. group_with row.0.0 row.0.1.0 row.1) (zip (zip texts lists) leads) ≡ map (λ row. group_with row.0.0 row.0.1 row.1) (zip (zip texts (map (λ list. list.0) lists)) leads)
+joined_lists [] lists leads = refl
+joined_lists (text ∷ texts) [] leads = refl
+joined_lists (text ∷ texts) (list ∷ lists) [] = refl
+joined_lists (text ∷ texts) (list ∷ lists) (lead ∷ leads) = ap (λ (groups : List Group). group_with text list.0 lead ∷ groups) (joined_lists texts lists leads)
+
 -- the groups of texts, behind the default group
-pub all_made : (names points : List (List ℕ)) (rows : List (List ℕ × Boundary)) (texts near : List GroupText) (held : List (List Boundary)) (leads : List (List (ℕ × Fallback))) (first : Group) (made : List Group)
-    → held ≡ map (λ text. held_by rows text) texts → near ≡ texts → leads ≡ map (λ text. leads_by names text) near
-    → made ≡ map (λ row. group_with row.0.0 row.0.1 row.1) (zip (zip texts held) leads) → first ≡ default_group points
+pub all_made : (names points : List (List ℕ)) (rows : List (List ℕ × Boundary)) (texts near : List GroupText) (lists : List (List Boundary × ℕ)) (leads : List (List (ℕ × Fallback))) (first : Group) (made : List Group)
+    → map (λ list. list.0) lists ≡ map (λ text. held_by rows text) texts → near ≡ texts → leads ≡ map (λ text. leads_by names text) near
+    → made ≡ map (λ row. group_with row.0.0 row.0.1.0 row.1) (zip (zip texts lists) leads) → first ≡ default_group points
     → first ∷ made ≡ default_group points ∷ map (λ text. group_of names rows text) texts
-all_made names points rows texts near held leads first made held_are same leads_are made_are first_is =
+all_made names points rows texts near lists leads first made held_are same leads_are made_are first_is =
     let join : (GroupText × List Boundary) × List (ℕ × Fallback) → Group = λ row. group_with row.0.0 row.0.1 row.1 in
     let holds : GroupText → List Boundary = λ text. held_by rows text in
     let lead : GroupText → List (ℕ × Fallback) = λ text. leads_by names text in
     let all : made ≡ map (λ text. group_of names rows text) texts =
     made_are
+    ∙ joined_lists texts lists leads
     ∙ ap (λ (each : List (List Boundary)). map join (zip (zip texts each) leads)) held_are
     ∙ ap (λ (each : List (List (ℕ × Fallback))). map join (zip (zip texts (map holds texts)) each)) (leads_are ∙ ap (λ (given : List GroupText). map lead given) same)
     ∙ joined_all names rows texts in

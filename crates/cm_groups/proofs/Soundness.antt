@@ -1,10 +1,10 @@
 -- What is true of groups that are made of texts without a fault.
-use Rattle.std.proofs.Common.{◌≡◌, ℕ, ◌+◌, ◌<◌, ◌≤◌, true, false, cond, List, [], ◌∷◌, All, IfNone, IfSome, length, map, get_or, refl, sym, ap, ◌∙◌, subst, arith, Option, None, Some, option_map}
+use Rattle.std.proofs.Common.{◌≡◌, ℕ, ◌<◌, ◌≤◌, true, false, cond, List, [], ◌∷◌, All, IfNone, IfSome, length, map, get_or, refl, sym, ap, ◌∙◌, subst, arith, Option, None, Some, option_map}
 use Rattle.std.specs.List.{cons_option, filter_map, find}
 use Rattle.std.specs.Option.{option_or}
 use Rattle.std.specs.Str.{bytes_eq}
 use Rattle.std.proofs.lemmas.List.{length-map}
-use Rattle.std.proofs.lemmas.List.Elements.{All-append, All-cons, All-head, All-map, All-nil, All-same, All-tail}
+use Rattle.std.proofs.lemmas.List.Elements.{All-cons, All-head, All-map, All-nil, All-tail}
 use Rattle.std.proofs.lemmas.Option.{none-some}
 use Rattle.cm_net.specs.declared.boundary.Boundary.{Boundary}
 use Rattle.cm_net.specs.Boundaries.{IsSound}
@@ -16,22 +16,9 @@ use Rattle.cm_groups.specs.declared.group_text.GroupText.{GroupText}
 use Rattle.cm_groups.specs.Faults.{IsFirst, boundary_faults, first_fault, group_faults}
 use Rattle.cm_groups.specs.Groups.{boundary_of, default_group, group_of, relation_of}
 use Rattle.cm_groups.specs.Names.{place_of}
-use Rattle.cm_groups.specs.Rows.{AreGroups, LeadsWithin, rows_from}
+use Rattle.cm_groups.specs.Rows.{AreGroups, LeadsWithin}
 use Rattle.cm_groups.specs.Texts.{group_names, names_of_rows}
 use Rattle.cm_groups.proofs.Places.{within}
-
--- all boundaries of the group are sound
-abbrev pub HasSound : Group → Type 0
-HasSound group = All IsSound group.boundaries
-
-pub rows_sound : (first : ℕ) (groups : List Group) → All HasSound groups → All (λ row. IsSound row.0) (rows_from first groups)
-rows_sound first [] h = All-nil (λ (row : Boundary × ℕ). IsSound row.0)
-rows_sound first (group ∷ groups) h =
-    let P : Boundary × ℕ → Type 0 = λ row. IsSound row.0 in
-    let numbered : Boundary → Boundary × ℕ = λ boundary. (boundary, first) in
-    All-append P (map numbered group.boundaries) (rows_from (first + 1) groups)
-    (All-map P numbered group.boundaries (All-head HasSound group groups h))
-    (rows_sound (first + 1) groups (All-tail HasSound group groups h))
 
 one_more : {X : Type 0} (P : X → Type 0) (found : Option X) (rest : List X) → IfSome found P → All P rest → All P (cons_option found rest)
 one_more P None rest is all = all
@@ -47,18 +34,9 @@ boundary_sound (row ∷ rows) name h =
       | false ↦ boundary_sound rows name (All-tail P row rows h)
     ]
 
-found_sound : (rows : List (List ℕ × Boundary)) (names : List (List ℕ)) → All (λ row. IsSound row.1) rows → All IsSound (filter_map (boundary_of rows) names)
+pub found_sound : (rows : List (List ℕ × Boundary)) (names : List (List ℕ)) → All (λ row. IsSound row.1) rows → All IsSound (filter_map (boundary_of rows) names)
 found_sound rows [] h = All-nil IsSound
 found_sound rows (name ∷ names) h = one_more IsSound (boundary_of rows name) (filter_map (boundary_of rows) names) (boundary_sound rows name h) (found_sound rows names h)
-
-pub made_sound : (made : List Group) (points names : List (List ℕ)) (rows given : List (List ℕ × Boundary)) (texts : List GroupText)
-    → made ≡ default_group points ∷ map (λ text. group_of names rows text) texts → rows ≡ given → All (λ row. IsSound row.1) given → All HasSound made
-made_sound made points names rows given texts e same h =
-    let P : List ℕ × Boundary → Type 0 = λ each. IsSound each.1 in
-    let make : GroupText → Group = λ text. group_of names rows text in
-    All-same HasSound made (default_group points ∷ map make texts) e
-    (All-cons HasSound (default_group points) (map make texts) (All-nil IsSound)
-    (All-map HasSound make texts (λ k d inside. found_sound rows (get_or texts k d).boundaries (All-same P rows given same h))))
 
 numbered_within : (found : Option ℕ) (fallback : Fallback) (count most : ℕ) → IfSome found (λ place. place < count) → count ≤ most
     → IfSome {T = ℕ × Fallback} (option_map (λ (number : ℕ). (number, fallback)) found) (λ relation. relation.0 < most)

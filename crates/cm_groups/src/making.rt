@@ -1,8 +1,7 @@
 //! Groups from their texts, once these have no fault.
-ghost use Rattle.std.specs.Prelude.{◌≡◌, ◌≤◌, ◌∷◌, ◌++◌, IfOk, OnOk, length, map};
-ghost use Rattle.std.specs.List.{filter_map, zip};
+ghost use Rattle.std.specs.Prelude.{◌≡◌, ◌≤◌, ◌∷◌, IfOk, length, map};
+ghost use Rattle.std.specs.List.{filter_map, range_with_len, zip};
 ghost use Rattle.cm_groups.specs.Groups.{boundary_of, default_group, group_of, group_with, held_by, leads_by, relation_of};
-ghost use Rattle.cm_groups.specs.Rows.{rows_from};
 ghost use Rattle.cm_groups.specs.Texts.{names_of_rows};
 
 use crate::group::Group;
@@ -113,20 +112,39 @@ fn leads_of_groups(
     Ok(leads)
 }
 
+/// The numbers of so many groups. The default group, number 0, is not among them.
+pub(crate) fn numbers_of(alloc: Global, count: u16) -> Result<Vec<u16>, AllocError>
+    requires { count ≤ 500 }
+    ensures { IfOk result (λ numbers. numbers.items ≡ range_with_len 1 count) }
+{
+    (1..count + 1).collect(alloc)
+}
+
+/// The lists of groups, each with the number of its group.
+pub(crate) fn numbered(
+    alloc: Global,
+    held: Vec<List<Boundary>>,
+    numbers: Vec<u16>,
+) -> Result<Vec<(List<Boundary>, u16)>, AllocError>
+    ensures { IfOk result (λ lists. lists.items ≡ zip held.items numbers.items) }
+{
+    held.into_iter().zip(numbers).collect(alloc)
+}
+
 /// The groups of texts, with the boundaries that each holds and the groups to which it leads.
 fn joined(
     alloc: Global,
     texts: Vec<GroupText>,
-    held: Vec<List<Boundary>>,
+    lists: Vec<(List<Boundary>, u16)>,
     leads: Vec<List<(u16, Fallback)>>,
 ) -> Result<Vec<Group>, AllocError>
-    ensures { IfOk result (λ made. made.items ≡ map (λ row. group_with row.0.0 row.0.1 row.1) (zip (zip texts.items held.items) leads.items)) }
+    ensures { IfOk result (λ made. made.items ≡ map (λ row. group_with row.0.0 row.0.1.0 row.1) (zip (zip texts.items lists.items) leads.items)) }
 {
     texts
         .into_iter()
-        .zip(held)
+        .zip(lists)
         .zip(leads)
-        .map(|((text, held), leads)| Group {
+        .map(|((text, (held, _)), leads)| Group {
             options: text.options,
             boundaries: held,
             points: text.points,
@@ -147,66 +165,23 @@ fn default_group(alloc: Global, points: Vec<ServerName>) -> Group
     }
 }
 
-/// All groups by their numbers, with the boundaries that were found for each.
+/// All groups by their numbers, with the boundaries that were found for each, which stand beside their numbers.
 pub(crate) fn groups_with(
     alloc: Global,
     rows: &[(Label, Boundary)],
     groups: &Names<Label>,
     texts: Vec<GroupText>,
-    held: Vec<List<Boundary>>,
+    lists: Vec<(List<Boundary>, u16)>,
     default_points: Vec<ServerName>,
 ) -> Result<Vec<Group>, Memory>
-    requires held { held.items ≡ map (λ text. held_by rows.now text) texts.items }
+    requires held { map (λ list. list.0) lists.items ≡ map (λ text. held_by rows.now text) texts.items }
     requires few { length groups.now ≤ 501 }
     ensures { IfOk result (λ made. made.items ≡ default_group default_points.items ∷ map (λ text. group_of groups.now rows.now text) texts.items) }
 {
     // The contract alone speaks of the boundaries.
     let _rows = rows;
     let leads = leads_of_groups(alloc, groups, &texts)?;
-    let mut made = joined(alloc, texts, held, leads)?;
+    let mut made = joined(alloc, texts, lists, leads)?;
     made.insert(0, default_group(alloc, default_points))?;
     Ok(made)
-}
-
-/// All groups by their numbers.
-pub(crate) fn groups_of(
-    alloc: Global,
-    boundaries: &Names<Label>,
-    rows: &[(Label, Boundary)],
-    groups: &Names<Label>,
-    texts: Vec<GroupText>,
-    default_points: Vec<ServerName>,
-) -> Result<Vec<Group>, Memory>
-    requires names { boundaries.now ≡ names_of_rows rows.now }
-    requires few { length groups.now ≤ 501 }
-    ensures { IfOk result (λ made. made.items ≡ default_group default_points.items ∷ map (λ text. group_of groups.now rows.now text) texts.items) }
-{
-    let held = held_by_groups(alloc, boundaries, rows, &texts)?;
-    groups_with(alloc, rows, groups, texts, held, default_points)
-}
-
-/// Adds the boundaries of a group with its number.
-fn add_rows(
-    rows: &mut Vec<(Boundary, u16)>,
-    boundaries: &[Boundary],
-    number: u16,
-) -> Result<(), AllocError>
-    ensures { OnOk result (rows.new.items ≡ rows.old.items ++ map (λ boundary. (boundary, number)) boundaries.now) }
-{
-    for boundary in boundaries {
-        rows.push((*boundary, number))?;
-    }
-    Ok(())
-}
-
-/// The boundaries of all groups, each with the number of its group.
-pub(crate) fn rows_of(alloc: Global, groups: &[Group]) -> Result<Vec<(Boundary, u16)>, AllocError>
-    requires { length groups.now ≤ 501 }
-    ensures { IfOk result (λ rows. rows.items ≡ rows_from 0 groups.now) }
-{
-    let mut rows = Vec::new(alloc);
-    for (number, group) in groups.iter().enumerate() {
-        add_rows(&mut rows, group.boundaries.items(), number as u16)?;
-    }
-    Ok(rows)
 }

@@ -4,10 +4,11 @@ ghost use Rattle.cm_net.specs.Boundaries.{IsSound};
 ghost use Rattle.cm_groups.specs.Groups.{groups_of, held_by};
 ghost use Rattle.cm_groups.specs.Texts.{group_names};
 
-use crate::making::groups_with;
+use crate::having::having_of;
+use crate::making::{groups_with, numbered, numbers_of};
 use crate::{GroupText, Groups, Names, SiteCode};
 use cm_base::{Label, List, Memory, ServerName};
-use cm_net::Boundary;
+use cm_net::{Boundary, Index};
 use std::alloc::Global;
 
 impl Groups {
@@ -30,7 +31,16 @@ impl Groups {
         ensures { IfOk result (λ made. made ≡ groups_of code rows.now texts.items default_points.items) }
     {
         let _code = code;
-        let made = groups_with(alloc, rows, groups, texts, held, default_points)?;
-        Groups::indexed(alloc, made)
+        let numbers = numbers_of(alloc, held.len() as u16)?;
+        let lists = List::of(numbered(alloc, held, numbers)?);
+        let index = Index::of_lists(alloc, &lists)?;
+        let lists = lists.into_items();
+        let made = groups_with(alloc, rows, groups, texts, lists, default_points)?;
+        let having = having_of(alloc, &made)?;
+        Ok(Groups {
+            groups: made,
+            index,
+            having,
+        })
     }
 }

@@ -53,10 +53,10 @@ held_has (span ∷ spans) a g =
       | false ↦ held_has spans a g
     ]
 
-has-from_Contains : (numbers : List ℕ) (number : ℕ) → Contains numbers number → list_any (λ other. other == number) numbers ≡ true
+pub has-from_Contains : (numbers : List ℕ) (number : ℕ) → Contains numbers number → list_any (λ other. other == number) numbers ≡ true
 has-from_Contains numbers number h = list_any-from_Any (λ other. other == number) numbers (h.0, number, h.1, h.2, eq-eqb number number refl)
 
-Contains-from_has : (numbers : List ℕ) (number : ℕ) → list_any (λ other. other == number) numbers ≡ true → Contains numbers number
+pub Contains-from_has : (numbers : List ℕ) (number : ℕ) → list_any (λ other. other == number) numbers ≡ true → Contains numbers number
 Contains-from_has numbers number h =
     let found = Any-from_list_any (λ other. other == number) numbers h in
     let same : found.1 ≡ number = eqb-true found.1 number found.4 in

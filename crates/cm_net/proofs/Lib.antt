@@ -10,9 +10,11 @@ pub mod Halving
 pub mod Hex
 pub mod JoinedTexts
 pub mod Gapless
+pub mod GatheredRows
 pub mod Machines
 pub mod Named
 pub mod SixTexts
+pub mod Numbered
 pub mod OneMeaning
 pub mod OneReading
 pub mod Reach

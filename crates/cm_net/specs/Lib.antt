@@ -4,6 +4,7 @@ pub mod Entries
 pub mod Faults
 pub mod FourReader
 pub mod Free
+pub mod Gathered
 pub mod Groups
 pub mod Indexed
 pub mod Machines

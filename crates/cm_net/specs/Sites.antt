@@ -1,8 +1,8 @@
 -- Sites with the numbers of their groups.
-use Rattle.std.specs.Prelude.{◌≤◌, length, ◌≡◌, ℕ, Vec, List, [], Option, Some}
+use Rattle.std.specs.Prelude.{◌≤◌, length, ◌≡◌, ◌==◌, ◌&&◌, ℕ, Bool, Vec, List, [], Option, Some, option_map, if◌then◌else◌}
+use Rattle.std.specs.List.{flat_map, list_any, slice_get}
 use Rattle.std.specs.Str.{bytes_eq}
 use Rattle.std.specs.declared.alloc.Global.{Global}
-use Rattle.std.specs.BTreeMap.{BTreeMap, get}
 use Rattle.std.specs.Cmp.Lexicographic.{slice_cmp}
 use Rattle.std.specs.List.Sorted.{IsStrictlySortedBy}
 use Rattle.std.specs.Option.{option_map_or}
@@ -21,9 +21,27 @@ groups_of_site sites name = last_groups (bytes_eq name) sites
 abbrev pub numbers_there : Option (Vec ℕ Global) → List ℕ
 numbers_there numbers = option_map_or (λ list. list.items) numbers []
 
--- for each site the map has the numbers of the rows that hold its clients, in the order of the rows
-abbrev pub HasNumbersOf : List (Boundary × ℕ) → BTreeMap (List ℕ) (Vec ℕ Global) → Type 0
-HasNumbersOf rows numbers = (name : List ℕ) → numbers_there (get (slice_cmp nat_cmp) numbers name) ≡ numbers_of (λ boundary. holds_site boundary (Some name)) rows
+-- the site has an entry at that place
+abbrev pub IsNamedAt : List (List ℕ × Vec ℕ Global) → ℕ → List ℕ → Type 0
+IsNamedAt entries place name = option_map (λ entry. entry.0) (slice_get entries place) ≡ Some name
+
+-- an entry of the site has the number
+abbrev pub is_numbered : List (List ℕ × Vec ℕ Global) → List ℕ → ℕ → Bool
+is_numbered entries site number = list_any (λ entry. bytes_eq entry.0 site && list_any (λ other. other == number) entry.1.items) entries
+
+-- the entries have for each site the numbers of the rows that hold its clients
+abbrev pub HaveNumbersOf : List (Boundary × ℕ) → List (List ℕ × Vec ℕ Global) → Type 0
+HaveNumbersOf rows entries = (name : List ℕ) (number : ℕ) → is_numbered entries name number ≡ list_any (λ other. other == number) (numbers_of (λ boundary. holds_site boundary (Some name)) rows)
+
+-- the numbers that entries have for the site
+abbrev pub numbers_for : List (List ℕ × Vec ℕ Global) → List ℕ → List ℕ
+numbers_for entries site = flat_map (λ entry. if bytes_eq site entry.0 then entry.1.items else []) entries
+
+-- The sites of entries, in the order of their names, with the numbers that the entries have for each.
+pub record AreSitesIn (entries : List (List ℕ × Vec ℕ Global)) (sites : List (Entry (List ℕ))) : Type 0 where
+  pub right : (name : List ℕ) → IsRisingOf (numbers_for entries name) (groups_of_site sites name)
+  pub order : IsStrictlySortedBy (slice_cmp nat_cmp) (keys_in sites)
+  pub few : length sites ≤ length entries
 
 -- The sites, in the order of their names. For each name they have the numbers of the rows that hold the clients of that site.
 pub record AreSitesOf (rows : List (Boundary × ℕ)) (sites : List (Entry (List ℕ))) : Type 0 where

@@ -1,18 +1,16 @@
 //! The index from a client to its groups.
-ghost use Rattle.std.specs.Prelude.{◌≡◌, ◌++◌, ℕ, ◌+◌, ◌*◌, ◌-◌, ◌<◌, ◌≤◌, ◌^◌, IfOk, OnOk, All, length};
+ghost use Rattle.std.specs.Prelude.{◌≡◌, ◌∷◌, [], ℕ, ◌+◌, ◌*◌, ◌-◌, ◌≤◌, ◌^◌, IfOk, All, map};
 ghost use Rattle.std.specs.Option.{option_copied};
-ghost use Rattle.cm_net.specs.Boundaries.{holds_address, holds_site, is_four, is_of_family, is_site, is_six, IsSound, rows_of};
-ghost use Rattle.cm_net.specs.Groups.{numbers_of, IsRisingOf};
-ghost use Rattle.cm_net.specs.Indexed.{AreFewSteps, AreSpansOf};
-ghost use Rattle.cm_net.specs.Spans.{is_held, spans_of};
+ghost use Rattle.cm_net.specs.Boundaries.{holds_address, holds_site, is_of_family, is_site, IsSound, rows_of};
+ghost use Rattle.cm_net.specs.Groups.{numbers_of, rows_in, IsRisingOf};
+ghost use Rattle.cm_net.specs.Indexed.{AreFewSteps};
 
 use crate::entry::Entry;
-use crate::joining::add_joined;
+use crate::gathered::{Gathered, gather};
 use crate::segments::{groups_at, segments_of};
 use crate::sites::{groups_of_site, sites_of};
-use crate::span::{Span, ends4, ends6};
 use crate::{Address, Boundary, SiteName, Steps};
-use cm_base::Memory;
+use cm_base::{List, Memory};
 use std::alloc::{AllocError, Global};
 use std::marker::Model;
 use std::snapshot::Snapshot;
@@ -25,76 +23,58 @@ pub struct Index {
     four: Vec<Entry<u128>>,
     six: Vec<Entry<u128>>,
     sites: Vec<Entry<SiteName>>,
-    rows: Snapshot<Vec<(Boundary, u16)>>,
+    lists: Snapshot<List<(List<Boundary>, u16)>>,
 }
 
 impl Model for Index {
     ghost use Rattle.std.specs.Prelude.{ℕ, List};
     ghost use Rattle.cm_net.specs.declared.boundary.Boundary.{Boundary};
+    ghost use Rattle.cm_net.specs.Groups.{rows_in};
     ghost use Rattle.cm_net.specs.Indexed.{IsIndexOf};
 
     ghost Value = { List (Boundary × ℕ) };
 
-    ghost view = { λ index. index.rows.value.items };
+    ghost view = { λ index. rows_in index.lists.value };
 
-    ghost invariant = { λ index. IsIndexOf index.rows.value.items index.four.items index.six.items index.sites.items };
+    ghost invariant = { λ index. IsIndexOf (rows_in index.lists.value) index.four.items index.six.items index.sites.items };
 }
 
-/// Adds the span from the one end to the other, where there are ends.
-fn add_span(spans: &mut Vec<Span>, ends: Option<(u128, u128)>, group: u16) -> Result<(), AllocError>
-    ensures same { OnOk result ((address number : ℕ) → is_held spans.new.items address number ≡ is_held (spans.old.items ++ spans_of ends group) address number) }
-    ensures few { OnOk result (length spans.new.items ≤ length spans.old.items + length (spans_of ends group)) }
+/// Each row as a list of one boundary.
+fn lists_of(
+    alloc: Global,
+    rows: &[(Boundary, u16)],
+) -> Result<Vec<(List<Boundary>, u16)>, AllocError>
+    ensures { IfOk result (λ lists. lists.items ≡ map (λ row. (row.0 ∷ [], row.1)) rows.now) }
 {
-    if let Some((first, last)) = ends {
-        add_joined(spans, Span { first, last, group })?;
-    }
-    Ok(())
-}
-
-/// The spans of the IPv4 addresses of the rows.
-fn spans4(alloc: Global, rows: &[(Boundary, u16)]) -> Result<Vec<Span>, AllocError>
-    requires { All (λ row. IsSound row.0) rows.now }
-    ensures { IfOk result (λ spans. AreSpansOf (2 ^ 32) (λ address. Address.V4 address) is_four rows.now spans.items) }
-{
-    let mut spans = Vec::new(alloc);
+    let mut lists = Vec::new(alloc);
     for (boundary, group) in rows {
-        add_span(&mut spans, ends4(boundary), *group)?;
+        lists.push((List::of(Vec::from_slice(alloc, &[*boundary])?), *group))?;
     }
-    Ok(spans)
-}
-
-/// The spans of the IPv6 addresses of the rows.
-fn spans6(alloc: Global, rows: &[(Boundary, u16)]) -> Result<Vec<Span>, AllocError>
-    requires { All (λ row. IsSound row.0) rows.now }
-    ensures { IfOk result (λ spans. AreSpansOf (2 ^ 128) (λ address. Address.V6 address) is_six rows.now spans.items) }
-{
-    let mut spans = Vec::new(alloc);
-    for (boundary, group) in rows {
-        add_span(&mut spans, ends6(boundary), *group)?;
-    }
-    Ok(spans)
+    Ok(lists)
 }
 
 impl Index {
-    /// The index of these rows.
-    pub fn of_rows(alloc: Global, rows: Vec<(Boundary, u16)>) -> Result<Index, Memory>
-        requires { All (λ row. IsSound row.0) rows.items }
-        ensures { IfOk result (λ index. index ≡ rows.items) }
+    /// The index of the boundaries of lists, each list with the number of the group that has them. The lists themselves are not kept.
+    pub fn of_lists(alloc: Global, lists: &List<(List<Boundary>, u16)>) -> Result<Index, Memory>
+        requires { All (λ list. All IsSound list.0) lists.now }
+        ensures { IfOk result (λ index. index ≡ rows_in lists.now) }
     {
+        let Gathered { four, six, sites } = gather(alloc, lists.items())?;
         Ok(Index {
-            four: segments_of(alloc, spans4(alloc, &rows)?)?,
-            six: segments_of(alloc, spans6(alloc, &rows)?)?,
-            sites: sites_of(alloc, &rows)?,
-            rows: Snapshot::of(&rows),
+            four: segments_of(alloc, four)?,
+            six: segments_of(alloc, six)?,
+            sites: sites_of(alloc, &sites.entries)?,
+            lists: Snapshot::of(lists),
         })
     }
 
-    /// The index of a copy of these rows.
+    /// The index of these rows.
     pub fn build(alloc: Global, rows: &[(Boundary, u16)]) -> Result<Index, Memory>
         requires { All (λ row. IsSound row.0) rows.now }
         ensures { IfOk result (λ index. index ≡ rows.now) }
     {
-        Index::of_rows(alloc, Vec::from_slice(alloc, rows)?)
+        let lists = List::of(lists_of(alloc, rows)?);
+        Index::of_lists(alloc, &lists)
     }
 
     /// The numbers of the groups that have the client by its address.

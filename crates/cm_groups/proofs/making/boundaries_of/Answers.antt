@@ -1,4 +1,4 @@
-use Rattle.std.proofs.Common.{◌∙◌, sym, ap, Some, None}
+use Rattle.std.proofs.Common.{◌∙◌, sym, None}
 use Rattle.std.proofs.lemmas.List.{append-nil}
 use Rattle.cm_groups.specs.Groups.{boundary_of}
 use Rattle.cm_groups.proofs.Places.{found_more}

@@ -5,7 +5,7 @@ use Rattle.std.specs.Map.{keys_of}
 use Rattle.std.proofs.lemmas.List.{length-map, map-append, map-id}
 use Rattle.std.proofs.lemmas.Map.Iter.{btree_map_turn, iter_end}
 use Rattle.cm_net.specs.declared.entry.Entry.{Entry}
-use Rattle.cm_net.specs.Sites.{numbers_there}
+use Rattle.cm_net.specs.Sites.{numbers_for, numbers_there}
 use Rattle.cm_net.proofs.Named.{site_added, name_added, all_sites, no_entry}
 use Rattle.cm_net.proofs.sites.sites_of.Goals as goal
 
@@ -17,7 +17,7 @@ loop-name-preserved c =
     let numbers = ap numbers_there (sym turn.1) ∙ c.in_ok-items.ensures.numbers c.in-Some.name in
     let added = rw c.new.ensures at c.in_ok-push.ensures.items in
     rw (map-append (λ (e : List ℕ × Vec ℕ Global). e.0) c.loop-name.yielded ((c.in-Some.name, c.in-Some.numbers) ∷ [])) (
-      site_added c.args.rows.now (keys_of c.loop-name.yielded) c.loop-name.sites.items _ _ added (rw numbers at c.rising-groups.ensures) c.loop-name.invariant.0,
+      site_added (numbers_for c.args.entries.now) (keys_of c.loop-name.yielded) c.loop-name.sites.items _ _ added (rw numbers at c.rising-groups.ensures) c.loop-name.invariant.0,
       name_added (keys_of c.loop-name.yielded) c.loop-name.sites.items _ _ added c.loop-name.invariant.1,
     )
 
@@ -27,7 +27,7 @@ returns c =
     c.into_iter-name-iterator.ensures.into_iter_gives.0 c.loop-name.yielded_by c.in-None.is c.next.ensures.steps in
     let names = c.loop-name.invariant.1 ∙ ap keys_of (sym (map-id c.loop-name.yielded) ∙ all.0) in
     record {
-      right = all_sites c.args.rows.now (keys_of c.loop-name.yielded) c.loop-name.sites.items
+      right = all_sites (numbers_for c.args.entries.now) (keys_of c.loop-name.yielded) c.loop-name.sites.items
           (λ name none. sym (c.in_ok-items.ensures.numbers name) ∙ no_entry c.in_ok-items.items.entries name (rw (sym (map-id c.loop-name.yielded) ∙ all.0) at none))
           c.loop-name.invariant.0;
       order = rw names c.into_iter-name-iterator.ensures.into_iter_gives.5;
