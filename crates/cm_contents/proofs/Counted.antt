@@ -281,7 +281,7 @@ found_more None hash (x ∷ xs) ys = by (bytes_eq x.hash.0 hash.0) (found_more N
     by true rest = refl
     by false rest = rest
 
-take_next : {A : Type 0} (xs : List A) (i : ℕ) (x : A) → i < length xs → x ≡ get_or xs i x → take i xs ++ x ∷ [] ≡ take (i + 1) xs
+pub take_next : {A : Type 0} (xs : List A) (i : ℕ) (x : A) → i < length xs → x ≡ get_or xs i x → take i xs ++ x ∷ [] ≡ take (i + 1) xs
 take_next xs i x lt is = ap (λ y. take i xs ++ y ∷ []) is ∙ sym (take-suc xs i x lt) ∙ ap (λ n. take n xs) (sym (add-one i))
 
 pub found_next : (seal : Option Seal) (hash : Hash) (xs : List Entry) (i : ℕ) (x : Entry) → i < length xs → x ≡ get_or xs i x → found_seal (found_seal seal hash (take i xs)) hash (x ∷ []) ≡ found_seal seal hash (take (i + 1) xs)

@@ -1,3 +1,5 @@
 pub mod Counted
 pub mod Keeping
-pub mod Planned
+pub mod Least
+pub mod Wanted
+pub mod Wanting

@@ -5,6 +5,7 @@ use Rattle.std.specs.declared.cmp.Ordering.{Ordering}
 use Rattle.std.specs.Ordering.{nat_cmp, is_lt, ordering_then}
 use Rattle.std.specs.Cmp.Lexicographic.{slice_cmp}
 use Rattle.std.specs.BTreeMap.{BTreeMap, get}
+use Rattle.std.specs.List.{AllByRecursion}
 use Rattle.cm_pkglib.specs.declared.row.PkgRow.{PkgRow}
 use Rattle.cm_pkglib.specs.declared.change.Change.{Change}
 use Rattle.cm_pkglib.specs.declared.change.Change.TheVariants.{Opened, Done, Dropped as DroppedRecord, Removed as RemovedRecord}
@@ -14,6 +15,8 @@ use Rattle.cm_state.specs.declared.row.VersionRow.{VersionRow}
 use Rattle.cm_state.specs.declared.row.JobRow.{JobRow}
 use Rattle.cm_state.specs.State.{Held, State, held_of, version_rows, job_rows}
 use Rattle.cm_state.specs.Changes.{StateChange, Begun, Finished, Dropped, Removed, record_of}
+use Rattle.cm_contents.specs.declared.wants.Wants.{Wants}
+use Rattle.cm_contents.specs.Wants.{HasHashes}
 
 -- a row with the manifest that is found for its package and version
 abbrev pub held_with : (List ℕ → ℕ → List Entry) → PkgRow → Held
@@ -92,9 +95,20 @@ abbrev pub has_manifest : BTreeMap (List ℕ × ℕ) (List Entry) → Option (Li
 has_manifest manifests None = true
 has_manifest manifests (Some key) = is_some (get key_cmp manifests key)
 
--- what is kept in memory: the told rows are those of the state, and there are the manifest of what is to begin and room for it
-pub record IsInMemory (memory : InMemory) (kept : Bool) (rows_room : ℕ) (versions : List VersionRow) (jobs : List JobRow) (versions_room jobs_room : ℕ) : Type 0 where
+-- what is found for a job is what it wants
+abbrev pub HasWants : (ℕ → Option Wants) → ℕ × Held → Type 0
+HasWants find job = HasHashes (find job.0) job.1.manifest
+
+-- what each unfinished job wants is found, and under the next number what the job wants that is to begin
+pub record AreWanted (find : ℕ → Option Wants) (state : State) (taken : Option Held) : Type 0 where
+  pub by_jobs : AllByRecursion (HasWants find) state.jobs
+  pub by_next : IfSome taken (λ held. HasHashes (find state.next) held.manifest)
+
+-- what is kept in memory: the told rows are those of the state, what jobs want is found, and there are the manifest of what is to
+-- begin and room for it
+pub record IsInMemory (memory : InMemory) (wants : ℕ → Option Wants) (kept : Bool) (rows_room : ℕ) (versions : List VersionRow) (jobs : List JobRow) (versions_room jobs_room : ℕ) : Type 0 where
   pub told : AreTold memory.state versions jobs versions_room
+  pub wanted : AreWanted wants memory.state memory.taken
   pub manifest_kept : kept ≡ true
   pub has_memory : IfSome memory.taken (λ held. HasMemory rows_room (length versions) (length jobs) versions_room jobs_room)
 

@@ -1,3 +1,3 @@
 pub mod Contents
-pub mod Plans
 pub mod Seals
+pub mod Wants

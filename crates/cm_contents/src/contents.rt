@@ -1,17 +1,20 @@
 //! What a library keeps in memory, and how it changes.
-ghost use Rattle.std.specs.Prelude.{◌≡◌, ◌+◌, ◌<◌, ◌≤◌, None, Some, List, ℕ, length, IfOk, IfSome, OnErr, OnOk, [], option_map, unwrap_or, vec_len, vec_capacity};
+ghost use Rattle.std.specs.Prelude.{◌≡◌, ◌+◌, ◌<◌, ◌≤◌, None, Some, List, ℕ, length, IfOk, IfSome, OnErr, OnOk, [], is_some, option_map, unwrap_or, vec_len, vec_capacity};
 ghost use Rattle.std.specs.Result.{result_err};
+ghost use Rattle.cm_pkglib.specs.Counts.{sealed_of};
 ghost use Rattle.cm_pkglib.specs.declared.change.Change.TheVariants.{Done as done_change, Dropped as dropped_change, Removed as removed_change};
 ghost use Rattle.cm_pkglib.specs.Rows.{last_of, fault_of, opened_fault, row_of_job};
 ghost use Rattle.cm_pkglib.specs.Valid.{AreValid};
 ghost use Rattle.cm_state.specs.Changes.{Begun, Finished, Dropped, Removed, changed};
-ghost use Rattle.cm_state.specs.State.{held_of, rows_of, version_rows, job_rows, count_in, entries_in};
+ghost use Rattle.cm_state.specs.State.{held_of, rows_of, version_rows, job_rows, count_in, entries_in, held_by_job};
 ghost use Rattle.cm_contents.specs.Contents.{state_with, manifest_in_map, PutsManifest, change_in, IsTakenFor};
 ghost use Rattle.cm_contents.specs.Seals.{job_manifest, version_manifest};
+ghost use Rattle.cm_contents.specs.Wants.{size_in, HasHashes, IsNextWanted};
 
 use crate::told::{drop_told, job_told, jobs_told, put_finished, take_told, versions_told};
+use crate::wants::{JobWants, Wants, drop_wants, jobs_want, keep_wants};
 use cm_base::{Hash, JobId, Memory, PackageId, Version};
-use cm_pkglib::{Change, PkgRow, RowFault, Rows};
+use cm_pkglib::{Change, Counts, PkgRow, RowFault, Rows};
 use cm_state::{JobRow, VersionRow};
 use cm_tree::Manifest;
 use std::alloc::Global;
@@ -29,19 +32,23 @@ pub struct Contents {
     pub(crate) manifests: Manifests,
     pub(crate) versions: Vec<VersionRow>,
     pub(crate) jobs: Vec<JobRow>,
+    // what each unfinished job wants; under the next number what the job wants that is to begin
+    pub(crate) wants: JobWants,
     // the version of a job that is to begin, for which memory is taken; its manifest is in the map
     pub(crate) taken: Option<(PackageId, Version)>,
 }
 
 impl Model for Contents {
     ghost use Rattle.std.specs.Prelude.{vec_capacity};
+    ghost use Rattle.std.specs.BTreeMap.{get};
+    ghost use Rattle.std.specs.Ordering.{nat_cmp};
     ghost use Rattle.cm_contents.specs.Contents.{InMemory, kept_with, manifest_in_map, has_manifest, IsInMemory};
 
     ghost Value = { InMemory };
 
     ghost view = { λ c. kept_with (manifest_in_map c.manifests) c.rows.rows c.taken };
 
-    ghost invariant = { λ c. IsInMemory (kept_with (manifest_in_map c.manifests) c.rows.rows c.taken) (has_manifest c.manifests c.taken) c.rows.room c.versions.items c.jobs.items (vec_capacity c.versions) (vec_capacity c.jobs) };
+    ghost invariant = { λ c. IsInMemory (kept_with (manifest_in_map c.manifests) c.rows.rows c.taken) (get nat_cmp c.wants) (has_manifest c.manifests c.taken) c.rows.room c.versions.items c.jobs.items (vec_capacity c.versions) (vec_capacity c.jobs) };
 }
 
 // Room for one more told job, and for the end of each.
@@ -139,13 +146,16 @@ impl Contents {
     pub fn of(alloc: Global, rows: Rows, manifests: Manifests) -> Result<Contents, Memory>
         ensures { IfOk result (λ contents. contents ≡ record { state = state_with (manifest_in_map manifests) rows.rows; taken = None }) }
     {
-        let versions = versions_told(alloc, rows.versions(), &manifests, rows.jobs().len())?;
-        let jobs = jobs_told(alloc, rows.jobs(), &manifests)?;
+        let unfinished = rows.jobs();
+        let versions = versions_told(alloc, rows.versions(), &manifests, unfinished.len())?;
+        let jobs = jobs_told(alloc, unfinished, &manifests)?;
+        let wants = jobs_want(alloc, unfinished, &manifests)?;
         Ok(Contents {
             rows,
             manifests,
             versions,
             jobs,
+            wants,
             taken: None,
         })
     }
@@ -218,6 +228,50 @@ impl Contents {
         }
     }
 
+    /// Whether a job is unfinished.
+    pub fn is_unfinished(&self, job: JobId) -> bool
+        ensures { result ≡ is_some (held_by_job job self.now.state.jobs) }
+    {
+        row_of_job(self.rows.jobs(), job).is_some()
+    }
+
+    // What an unfinished job wants. None only where its manifest has no entries, or there is no such job.
+    fn job_wants(&self, job: JobId) -> Option<&Wants>
+        ensures { HasHashes (option_map (λ wants. wants.now) result) (job_manifest job self.now.state) }
+    {
+        if !self.is_unfinished(job) {
+            return None;
+        }
+        self.wants.get(&job)
+    }
+
+    /// The size in bytes that the first entry with a hash has in the manifest of an unfinished job. None exactly where no entry has
+    /// that hash, or there is no such job.
+    pub fn wanted_size(&self, job: JobId, hash: Hash) -> Option<u32>
+        ensures { result ≡ size_in hash (job_manifest job self.now.state) }
+    {
+        match self.job_wants(job) {
+            Some(wants) => wants.size(hash),
+            None => None,
+        }
+    }
+
+    /// The least hash above another that the manifest of an unfinished job names and that is not sealed, with the size in bytes of
+    /// its first entry. None exactly where there is none, or no such job.
+    pub fn next_wanted(
+        &self,
+        counts: &Counts,
+        job: JobId,
+        after: Option<Hash>,
+    ) -> Option<(Hash, u32)>
+        ensures { IsNextWanted (sealed_of counts.now) (job_manifest job self.now.state) after result }
+    {
+        match self.job_wants(job) {
+            Some(wants) => wants.next(counts, after),
+            None => None,
+        }
+    }
+
     // The manifest of an unfinished job. None only where that has no entries, or there is no such job.
     pub(crate) fn job_manifest(&self, job: JobId) -> Option<&Manifest>
         ensures { unwrap_or (option_map (λ manifest. manifest.now) result) [] ≡ job_manifest job self.now.state }
@@ -242,6 +296,7 @@ impl Contents {
     /// taken.
     pub fn take_memory(
         &mut self,
+        alloc: Global,
         package: PackageId,
         version: Version,
         manifest: Manifest,
@@ -251,6 +306,10 @@ impl Contents {
         ensures memory { OnErr result (self.new ≡ record { state = self.old.state; taken = None }) }
     {
         self.taken = None;
+        // each unfinished job has a lower number than the next, so what it wants stays
+        let _unfinished = self.rows.jobs();
+        let job = self.rows.next();
+        keep_wants(alloc, &mut self.wants, job, manifest.entries())?;
         take_room(
             &mut self.rows,
             &mut self.manifests,
@@ -303,6 +362,9 @@ impl Contents {
         requires { fault_of (rows_of self.old.state) (done_change job) ≡ None }
         ensures { self.new ≡ record { state = changed (Finished job) self.old.state; taken = self.old.taken } }
     {
+        // its number is below the next, under which a job that is to begin has what it wants
+        let _unfinished = self.rows.jobs();
+        drop_wants(&mut self.wants, job);
         let _applied = self.rows.apply(&Change::Done { job });
         let told = take_told(&mut self.jobs, job);
         put_finished(&mut self.versions, told);
@@ -313,6 +375,9 @@ impl Contents {
         requires { fault_of (rows_of self.old.state) (dropped_change job) ≡ None }
         ensures { self.new ≡ record { state = changed (Dropped job) self.old.state; taken = self.old.taken } }
     {
+        // its number is below the next, under which a job that is to begin has what it wants
+        let _unfinished = self.rows.jobs();
+        drop_wants(&mut self.wants, job);
         let _applied = self.rows.apply(&Change::Dropped { job });
         let _told = take_told(&mut self.jobs, job);
     }

@@ -3,9 +3,9 @@
 
 mod contents;
 mod counting;
-mod planning;
 mod told;
+mod wants;
 
 pub use contents::{Contents, Manifests};
 pub use counting::{count_all, count_taken, make, not_stored, seal, uncount_taken};
-pub use planning::{named_hashes, plan_of};
+pub use wants::Wants;

@@ -18,7 +18,7 @@ pub struct Writing {
 }
 
 impl Writing {
-    ghost use Rattle.cm_filelib.specs.Writings.{hash_of, size_of};
+    ghost use Rattle.cm_filelib.specs.Writings.{hash_of, size_of, next_of};
 
     /// The SHA-256 that the file is to have.
     pub fn hash(&self) -> Hash
@@ -32,5 +32,12 @@ impl Writing {
         ensures { result ≡ size_of self.now }
     {
         self.size
+    }
+
+    /// Where the next piece goes: how many bytes were put so far.
+    pub fn next(&self) -> u64
+        ensures { result ≡ next_of self.now }
+    {
+        self.next
     }
 }

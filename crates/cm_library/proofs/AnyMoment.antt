@@ -16,6 +16,10 @@ is_taken change s range free =
     ap (λ (b : Bool). cond (b && not (is_some (fault_of (rows_of s) (record_of change)))) (Some change) None) range
     ∙ ap (λ (o : Option RowFault). cond (true && not (is_some o)) (Some change) None) free
 
+-- a call that changes no state
+abbrev pub no_change : State → Option StateChange
+no_change state = None
+
 -- an error is no value
 pub not_ok : {T E : Type 0} (e : E) (x : T) → (let r : Result T E = Err e in r) ≡ Ok x → ⊥
 not_ok e x is = cc

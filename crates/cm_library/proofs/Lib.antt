@@ -1,10 +1,16 @@
 pub mod AnyMoment
 pub mod EndChanges
+pub mod FileAt
+pub mod FileCalls
+pub mod FilesWritten
+pub mod FilledJob
 pub mod Keeps
 pub mod ManifestStored
 pub mod MapKept
 pub mod Naming
 pub mod PutSoFar
 pub mod Refused
+pub mod SettledCalls
+pub mod StartedFiles
 pub mod StoredTree
 pub mod Sure

@@ -6,6 +6,7 @@ use Rattle.cm_disk.specs.Disk.{File, Files, IsImage, LeavesOnly}
 use Rattle.cm_disk.proofs.Moments.{started}
 use Rattle.cm_log.specs.declared.state.Log.{Log}
 use Rattle.cm_log.specs.Settled.{end_of}
+use Rattle.cm_filelib.specs.declared.writing.Writing.{Writing}
 use Rattle.cm_pkglib.specs.declared.change.Change.{Change}
 use Rattle.cm_pkglib.specs.declared.counts.Counts.{Counts}
 use Rattle.cm_pkglib.specs.Counts.{seals_in}
@@ -18,8 +19,8 @@ use Rattle.cm_contents.specs.Contents.{InMemory, change_in}
 use Rattle.cm_library.specs.Kept.{Seen, pending_in, IsKept}
 
 module _ {D : Type 0} (reads : D → Option Files) (may_leave : D → List ℕ → File → Type 0) (moment : D → ℕ) (left_since : D → ℕ → Files → Type 0) (only_now : (disk : D) (files : Files) → left_since disk (moment disk) files → IsImage (may_leave disk) files)
-    (start disk : D) (log : Log) (m : InMemory) (counts : Counts) (pending : Option Change) (view : Seen D) (change : State → Option StateChange)
-    (is : (let v : Seen D = record { disk = disk; start = start; state = m.state; seals = seals_in counts; end = end_of log; pending = pending_in m.taken pending } in v) ≡ view)
+    (start disk : D) (log : Log) (m : InMemory) (counts : Counts) (pending : Option Change) (files : List (ℕ × Writing)) (view : Seen D) (change : State → Option StateChange)
+    (is : (let v : Seen D = record { disk = disk; start = start; state = m.state; seals = seals_in counts; started = files; end = end_of log; pending = pending_in m.taken pending } in v) ≡ view)
     (settled : view.pending ≡ None) (kept : IsKept reads may_leave start disk log m counts pending) (new : D) (same : disk ≡ new) where
   idle : IsKept reads may_leave start disk log m counts None
   idle = subst (λ (p : Option Change). IsKept reads may_leave start disk log m counts p) (no_some (change_in m.taken) pending (ap (λ (v : Seen D). v.pending) is ∙ settled)) kept

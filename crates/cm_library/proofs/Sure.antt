@@ -77,7 +77,7 @@ named_bytes hash size (Some bytes) is =
     let parts = and_parts _ _ is in
     subst IsBytes ((bytes_eq-Decides (sha256 bytes) hash).0 parts.1) (sha256_bytes bytes)
 
-sure_bytes : (may_leave : List ℕ → File → Type 0) (files : Files) (hash : List ℕ) (size : ℕ) → IsImage may_leave files → IsFileSure may_leave hash size → IsBytes hash
+pub sure_bytes : (may_leave : List ℕ → File → Type 0) (files : Files) (hash : List ℕ) (size : ℕ) → IsImage may_leave files → IsFileSure may_leave hash size → IsBytes hash
 sure_bytes may_leave files hash size image sure = named_bytes hash size (files (file_place hash)) (sure (files (file_place hash)) (image (file_place hash)))
 
 -- the entries of versions, one after another
@@ -181,6 +181,14 @@ module _ {D : Type 0} (reads : D → Option Files) (may_leave : D → List ℕ �
       found hash all (Some e) is =
           subst (λ (h : List ℕ). IsFileSure (may_leave disk) h e.size) ((bytes_eq-Decides e.hash.0 hash.0).0 (found_passes (λ (x : Entry). bytes_eq x.hash.0 hash.0) (version_entries s) e is))
           (found_one (λ (x : Entry). IsFileSure (may_leave disk) x.hash.0 x.size) (λ (x : Entry). bytes_eq x.hash.0 hash.0) (version_entries s) all e is)
+
+-- a hash that had no seal has none
+pub needed_none : (s : State) (old new : Hash → Option Seal) → KeepsNeeded s old new → (hash : Hash) → old hash ≡ None → new hash ≡ None
+needed_none s old new needed hash is = needed hash ∙ ap (λ (o : Option Seal). if_needed (is_needed hash.0 s) o) is ∙ by (is_needed hash.0 s)
+  where
+    by : (b : Bool) → if_needed b None ≡ None
+    by true = refl
+    by false = refl
 
 -- seals that stay are those that are needed
 pub kept_needed : (counts counts' : Counts) (s : State) (more : List Entry) → IsCounted counts s more → KeepsSeals (sealed_of counts) (sealed_of counts') → KeepsNeeded s (sealed_of counts) (sealed_of counts')

@@ -1,5 +1,5 @@
 -- What the type of a library keeps.
-use Rattle.std.specs.Prelude.{◌≡◌, ℕ, ◌+◌, true, false, List, length, Option, None, Some, IfSome, option_map}
+use Rattle.std.specs.Prelude.{◌≡◌, ℕ, ◌+◌, ◌≤◌, true, false, List, length, Option, None, Some, IfSome, option_map}
 use Rattle.std.specs.Option.{ForSome}
 use Rattle.cm_base.specs.declared.hash.Hash.{Hash}
 use Rattle.cm_disk.specs.Disk.{File, Files}
@@ -11,6 +11,7 @@ use Rattle.cm_pkglib.specs.declared.counts.Seal.{Seal}
 use Rattle.cm_pkglib.specs.declared.counts.Counts.{Counts}
 use Rattle.cm_pkglib.specs.Changes.{spelled}
 use Rattle.cm_pkglib.specs.Counts.{sealed_of}
+use Rattle.cm_filelib.specs.declared.writing.Writing.{Writing}
 use Rattle.cm_filelib.specs.Stored.{IsFileSure}
 use Rattle.cm_state.specs.State.{Held, State}
 use Rattle.cm_state.specs.Changes.{StateChange}
@@ -20,15 +21,17 @@ use Rattle.cm_state.specs.Opens.{EachOpensSome}
 use Rattle.cm_state.specs.Sure.{AreManifestsSure, AreVersionsSure}
 use Rattle.cm_contents.specs.Contents.{InMemory, change_in, IsTakenFor}
 use Rattle.cm_contents.specs.Seals.{brought, IsCounted, AreStored}
+use Rattle.cm_library.specs.Started.{AreStarted}
 
 -- What contracts see of a library: its disk, and that disk at its opening; the state as last settled; the seals of the hashes that are
--- named; the place of its log's closed gate; and the change of a call that the disk failed, of which nobody knows yet
--- whether it was committed.
+-- named; the files that unfinished jobs have started; the place of its log's closed gate; and the change of a call that the disk failed,
+-- of which nobody knows yet whether it was committed.
 pub record Seen (D : Type 0) : Type 0 where
   pub disk : D
   pub start : D
   pub state : State
   pub seals : List (Hash × Option Seal)
+  pub started : List (ℕ × Writing)
   pub end : ℕ
   pub pending : Option StateChange
 
@@ -77,10 +80,16 @@ pub record AreSure {D : Type 0} (reads : D → Option Files) (may_leave : D → 
   pub seals : EachOpensSome (may_leave start) → ForSome (reads disk) (λ _. AreSealsSure (may_leave disk) (sealed_of counts))
   pub versions : EachOpensSome (may_leave start) → ForSome (reads disk) (λ _. AreVersionsSure (may_leave disk) state)
 
--- What the type keeps: the library stands, each hash is counted, the entries of a job whose end is pending are stored, and what is sealed
--- is sure.
+-- What stands of versions and jobs: the library stands, each hash is counted, the entries of a job whose end is pending are stored, and
+-- what is sealed is sure.
 pub record IsKept {D : Type 0} (reads : D → Option Files) (may_leave : D → List ℕ → File → Type 0) (start disk : D) (log : Log) (memory : InMemory) (counts : Counts) (pending : Option Change) : Type 0 where
   pub standing : IsStanding reads may_leave disk log memory pending
   pub counted : IsCounted counts memory.state (brought (pending_in memory.taken pending))
   pub stored : IfSome (pending_in memory.taken pending) (λ change. AreStored (sealed_of counts) change memory.state)
   pub sure : AreSure reads may_leave start disk memory.state counts
+
+-- What the type keeps: this, the started files, and room for one of each unfinished job.
+pub record IsLibrary {D : Type 0} (reads : D → Option Files) (may_leave : D → List ℕ → File → Type 0) (start disk : D) (log : Log) (memory : InMemory) (counts : Counts) (pending : Option Change) (started : List (ℕ × Writing)) (room : ℕ) : Type 0 where
+  pub kept : IsKept reads may_leave start disk log memory counts pending
+  pub files : AreStarted (reads disk) memory.state (sealed_of counts) (pending_in memory.taken pending) started
+  pub enough : 256 ≤ room

@@ -1,6 +1,8 @@
 pub mod Begins
 pub mod Calls
+pub mod Filing
 pub mod Kept
 pub mod Loads
 pub mod Opening
+pub mod Started
 pub mod Storing

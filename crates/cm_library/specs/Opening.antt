@@ -1,5 +1,5 @@
 -- What opening finds.
-use Rattle.std.specs.Prelude.{◌≡◌, ℕ, List, Option, None}
+use Rattle.std.specs.Prelude.{◌≡◌, ℕ, List, [], Option, None}
 use Rattle.std.specs.Option.{ForSome}
 use Rattle.cm_disk.specs.Disk.{File, Files}
 use Rattle.cm_state.specs.Look.{Opened, look, gate_in}
@@ -11,7 +11,7 @@ use Rattle.cm_library.specs.Kept.{Seen}
 
 -- A library was opened: it is settled, its state is that of the files, and its log ends where it ends in them. The disk reads as before,
 -- and a crash preserves the manifests that the state needs. The hashes of the versions are sealed, and no others, each with the size of
--- the first entry that has it.
+-- the first entry that has it. No job has started a file.
 pub record HasFound {D : Type 0} (old new : Option Files) (may_leave : List ℕ → File → Type 0) (start : D) (library : Seen D) : Type 0 where
   pub start_is : library.start ≡ start
   pub settled : library.pending ≡ None
@@ -20,4 +20,5 @@ pub record HasFound {D : Type 0} (old new : Option Files) (may_leave : List ℕ 
   pub same : new ≡ old
   pub manifests : ForSome old (λ _. AreManifestsSure may_leave library.state)
   pub seals : (hash : Hash) → seal_at library.seals hash ≡ found_seal None hash (version_entries library.state)
+  pub started : library.started ≡ []
   pub of_versions : SealsVersions (seal_at library.seals) library.state

@@ -73,6 +73,7 @@ fn store_and_commit<D: Disk>(
     ensures stands { ForSome (D.reads disk.old) (λ _. LeavesOnly D.moment D.left_since disk.old disk.new (StandsOr contents.old.state (Some (Begun job «package» version (taken_manifest contents.old.taken))))) }
     ensures opens { EachOpensSome (D.may_leave start.now.value) → ForSome (D.reads disk.old) (λ _. LeavesOnly D.moment D.left_since disk.old disk.new (OpensOr contents.old.state (Some (Begun job «package» version (taken_manifest contents.old.taken))))) }
     ensures store { Told KeepsStore (D.reads disk.old) (D.reads disk.new) }
+    ensures silent { D.reads disk.old ≡ None → D.reads disk.new ≡ None }
     ensures cause { HasCause (D.faults disk.old) (D.faults disk.new) result }
 {
     let manifest = match contents.taken() {
@@ -145,7 +146,10 @@ impl<D: Disk> Library<D> {
         }
         let job = self.contents.next();
         are_recordable(job, package, version);
-        match self.contents.take_memory(package, version, manifest) {
+        match self
+            .contents
+            .take_memory(self.alloc, package, version, manifest)
+        {
             Ok(()) => {}
             Err(_) => return Err(LibFault::Memory),
         }

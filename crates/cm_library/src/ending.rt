@@ -1,5 +1,5 @@
 //! Jobs end, and versions are removed.
-ghost use Rattle.std.specs.Prelude.{◌≡◌, ◌≢◌, ◌≤◌, false, None, IfErr, IsErrOf};
+ghost use Rattle.std.specs.Prelude.{◌≡◌, ◌≢◌, ◌≤◌, false, None, IfErr, IsErrOf, vec_capacity};
 ghost use Rattle.std.specs.Option.{ForSome};
 ghost use Rattle.cm_base.specs.Causes.{Rose};
 ghost use Rattle.cm_disk.specs.Disk.{LeavesOnly};
@@ -15,12 +15,16 @@ ghost use Rattle.cm_state.specs.State.{State};
 ghost use Rattle.cm_contents.specs.Contents.{change_in};
 ghost use Rattle.cm_contents.specs.Seals.{end_fault};
 ghost use Rattle.cm_library.specs.Calls.{AnyMoment, Ends, EndsOrStays};
+ghost use Rattle.cm_library.specs.Filing.{KeepsRows};
+ghost use Rattle.cm_library.specs.Started.{left_by};
 
 use crate::commits::commit;
 use crate::library::Library;
+use crate::started::leave_file;
 use cm_base::{JobId, PackageId, Version};
 use cm_contents::not_stored;
 use cm_disk::Disk;
+use cm_filelib::Writing;
 use cm_pkglib::{Change, RowFault};
 use cm_state::LibFault;
 
@@ -66,6 +70,20 @@ fn removed(package: PackageId, version: Version) -> Change
     Change::Removed { package, version }
 }
 
+// A job that is dropped gives up its started file.
+fn leave_by(started: &mut Vec<(JobId, Writing)>, change: &Change)
+    requires { is_opened change.now ≡ false }
+    ensures rest { started.new.items ≡ left_by (change_in None change.now) started.old.items }
+    ensures capacity { vec_capacity started.new ≡ vec_capacity started.old }
+{
+    match *change {
+        Change::Opened { .. } => {}
+        Change::Done { .. } => {}
+        Change::Dropped { job } => leave_file(started, job),
+        Change::Removed { .. } => {}
+    }
+}
+
 impl<D: Disk> Library<D> {
     // Why a change is refused other than that a job begins.
     fn end_fault(&self, change: &Change) -> Option<LibFault>
@@ -105,6 +123,7 @@ impl<D: Disk> Library<D> {
             Some(fault) => return Err(fault),
             None => {}
         }
+        leave_by(&mut self.started, change);
         match commit(
             &self.start,
             &mut self.disk,
@@ -117,6 +136,17 @@ impl<D: Disk> Library<D> {
             Ok(()) => Ok(()),
             Err(_) => Err(LibFault::Disk),
         }
+    }
+
+    // A job that is to be dropped gives up its started file.
+    fn leave_by(&mut self, change: &Change)
+        requires { is_opened change.now ≡ false }
+        ensures started { self.new.started ≡ left_by (change_in None change.now) self.old.started }
+        ensures rows { KeepsRows self.old self.new }
+        ensures seals { self.new.seals ≡ self.old.seals }
+        ensures disk { self.new.disk ≡ self.old.disk }
+    {
+        leave_by(&mut self.started, change);
     }
 
     // Settles, and then commits a change other than that a job begins.
@@ -135,7 +165,10 @@ impl<D: Disk> Library<D> {
         self.tells();
         match self.settle() {
             Ok(_) => {}
-            Err(fault) => return Err(fault),
+            Err(fault) => {
+                self.leave_by(change);
+                return Err(fault);
+            }
         }
         self.end_settled(change)
     }
@@ -158,8 +191,8 @@ impl<D: Disk> Library<D> {
         self.end_by(&done(job))
     }
 
-    /// Gives up a job. `NoJob` if and only if the job is not unfinished, and then nothing has changed. It takes no memory. After
-    /// `Disk` the rows are told as before the call, and the change may be committed.
+    /// Gives up a job, and first its started file. `NoJob` if and only if the job is not unfinished, and then nothing has changed. It
+    /// takes no memory. After `Disk` the job has no started file, the rows are told as before the call, and the change may be committed.
     pub fn drop_job(&mut self, job: JobId) -> Result<(), LibFault>
         ensures call { EndsOrStays D.reads (λ _. Dropped job) (λ mid answer. RefusesOr (end_fault (seal_at mid.seals) mid.state (Dropped job)) answer) self.old self.new result }
         ensures unchanged { self.old.pending ≡ None → IfErr result (λ fault. fault ≢ LibFault.Disk → self.new ≡ self.old) }

@@ -10,11 +10,16 @@ mod loading;
 mod making;
 mod manifests;
 mod opening;
+mod putting;
 mod records;
+mod salvaging;
 mod sealing;
 mod settling;
+mod started;
+mod starting;
 mod storing;
 mod telling;
+mod wanting;
 
 pub use cm_log::CreateFault;
 pub use cm_pkglib::Change;

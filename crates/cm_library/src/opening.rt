@@ -16,6 +16,7 @@ ghost use Rattle.cm_state.specs.Standing.{StandsIn, IsReady};
 use crate::library::Library;
 use crate::loading::load_all;
 use crate::records::{of_log, read_rows};
+use crate::started::none_started;
 use cm_contents::{Contents, count_all};
 use cm_disk::Disk;
 use cm_log::{Log, LogReader, Shelf};
@@ -97,6 +98,10 @@ impl<D: Disk> Library<D> {
     {
         let start = Snapshot::of(&disk);
         let mut disk = disk;
+        let started = match none_started(alloc) {
+            Ok(started) => started,
+            Err(_) => return Err((disk, OpenFault::Memory)),
+        };
         match read_library(alloc, &mut disk) {
             Ok((log, contents, counts)) => Ok(Library {
                 alloc,
@@ -105,6 +110,7 @@ impl<D: Disk> Library<D> {
                 log,
                 contents,
                 counts,
+                started,
                 pending: None,
             }),
             Err(fault) => Err((disk, fault)),

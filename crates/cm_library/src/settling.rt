@@ -9,6 +9,7 @@ ghost use Rattle.cm_state.specs.Opens.{OpensOr, StandsOr, EachOpensSome};
 ghost use Rattle.cm_state.specs.Sound.{IsSound};
 ghost use Rattle.cm_library.specs.Calls.{Finds, StaysUnsettled, Tells};
 ghost use Rattle.cm_library.specs.Kept.{AreSealsSure, AreSealsSureSince};
+ghost use Rattle.cm_library.specs.Started.{AreStarted};
 ghost use Rattle.cm_pkglib.specs.Counts.{seal_at};
 
 use crate::commits::settle_pending;
@@ -24,7 +25,7 @@ impl<D: Disk> Library<D> {
     pub fn settle(&mut self) -> Result<Option<Change>, LibFault>
         ensures found { OnOk result (Finds D.reads self.old self.new) }
         ensures told { IfOk result (λ told. Tells self.old.pending self.old.state self.new.state told) }
-        ensures failed { IfErr result (λ fault. (fault ≡ LibFault.Disk) × StaysUnsettled self.old self.new) }
+        ensures failed { IfErr result (λ fault. (fault ≡ LibFault.Disk) × StaysUnsettled (λ started. started) self.old self.new) }
         ensures was_settled { self.old.pending ≡ None → (result ≡ Ok None) × (self.new ≡ self.old) }
         ensures only { OnlyReads D.reads D.may_leave D.moment D.left_since D.faults self.old.disk self.new.disk }
         ensures cause { IsErrOf result LibFault.Disk → Rose (D.faults self.old.disk) (D.faults self.new.disk) }
@@ -51,6 +52,9 @@ impl<D: Disk> Library<D> {
         ensures stands { ForSome (D.reads self.now.disk) (λ _. (image : Files) → IsImage (D.may_leave self.now.disk) image → StandsOr self.now.state self.now.pending image) }
         ensures opens { EachOpensSome (D.may_leave self.now.start) → ForSome (D.reads self.now.disk) (λ _. (image : Files) → IsImage (D.may_leave self.now.disk) image → OpensOr self.now.state self.now.pending image) }
         ensures since { ForSome (D.reads self.now.disk) (λ _. AreSealsSureSince (D.may_leave self.now.disk) (seal_at self.now.seals)) }
+        // Each started file is one that its unfinished job wants; it is not sealed, no other job has started its hash, and its place reads as
+        // the bytes that were put so far.
+        ensures started { AreStarted (D.reads self.now.disk) self.now.state (seal_at self.now.seals) self.now.pending self.now.started }
         ensures sealed { EachOpensSome (D.may_leave self.now.start) → ForSome (D.reads self.now.disk) (λ _. AreSealsSure (D.may_leave self.now.disk) (seal_at self.now.seals)) }
     {
         let _log = &self.log;

@@ -62,6 +62,7 @@ impl<D: Disk> Library<D> {
             log: _,
             contents: _,
             counts: _,
+            started: _,
             pending: _,
         } = self;
         disk

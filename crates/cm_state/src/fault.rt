@@ -30,15 +30,49 @@ pub enum LibFault {
     /// The version is there.
     VersionThere,
     /// That unfinished job has this package and version.
-    JobThere { job: JobId },
+    JobThere {
+        job: JobId,
+    },
     /// Versions and unfinished jobs are 8,192.
     TooManyVersions,
     /// Their entries would pass 400,000.
     TooManyEntries,
     /// 256 jobs are unfinished.
     TooManyJobs,
+    /// The hash is not in the job's manifest.
+    Unwanted {
+        hash: Hash,
+    },
+    /// The hash is sealed.
+    Stored {
+        hash: Hash,
+    },
+    /// That other unfinished job has started this hash, and has neither sealed it nor given it up.
+    HeldBy {
+        hash: Hash,
+        job: JobId,
+    },
+    /// The job has no started file.
+    NotStarted,
+    /// The bytes do not go where the next ones go, which is there.
+    WrongOffset {
+        expected: u64,
+    },
+    /// The file would have more than this size, in bytes.
+    TooLong {
+        size: u32,
+    },
+    /// The file was to have this hash and size, and so many bytes with another hash or size were put.
+    WrongBytes {
+        named: Hash,
+        size: u32,
+        got: Hash,
+        put: u32,
+    },
     /// This is the first hash of the manifest that is not sealed, or is sealed with another size than its entry's.
-    NotStored { hash: Hash },
+    NotStored {
+        hash: Hash,
+    },
     /// The next job number is 2^64 - 1, or the log's end is past 2^40 - 1,048,576.
     Spent,
     /// There was no memory.

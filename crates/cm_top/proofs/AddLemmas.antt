@@ -19,7 +19,7 @@ use Rattle.cm_state.specs.State.{State, count_in, entries_in, bytes_of}
 use Rattle.cm_state.specs.Changes.{replayed}
 use Rattle.cm_state.specs.Whole.{AddsWholeTree, changes_of_add}
 use Rattle.cm_state.specs.declared.fault.LibFault.{LibFault}
-use Rattle.cm_state.specs.declared.fault.LibFault.TheVariants.{NoJob, NoVersion, VersionThere, JobThere, TooManyVersions, TooManyEntries, TooManyJobs, NotStored, Spent, Memory as LibMemory, Disk as LibDisk}
+use Rattle.cm_state.specs.declared.fault.LibFault.TheVariants.{NoJob, NoVersion, VersionThere, JobThere, TooManyVersions, TooManyEntries, TooManyJobs, Unwanted, Stored, HeldBy, NotStarted, WrongOffset, TooLong, WrongBytes, NotStored, Spent, Memory as LibMemory, Disk as LibDisk}
 use Rattle.cm_top.specs.Bays.{Seen, site}
 use Rattle.cm_top.specs.Machine.{Given, Step, replied, refusal_of, added, limited, is_spent, gathered_or, new_package, step_add}
 use Rattle.cm_top.specs.Openings.{reply_to_add}
@@ -167,6 +167,13 @@ module _ (id : List ℕ) (state : State) (gate : ℕ) (from to : Sourced) (old n
         not_added T VersionThere bay named same cause why = tt
         not_added T (JobThere job) bay named same cause why = tt
         not_added T TooManyJobs bay named same cause why = tt
+        not_added T (Unwanted hash) bay named same cause why = tt
+        not_added T (Stored hash) bay named same cause why = tt
+        not_added T (HeldBy hash job) bay named same cause why = tt
+        not_added T NotStarted bay named same cause why = tt
+        not_added T (WrongOffset expected) bay named same cause why = tt
+        not_added T (TooLong size) bay named same cause why = tt
+        not_added T (WrongBytes hash size got put) bay named same cause why = tt
         not_added T (NotStored hash) bay named same cause why = tt
         not_added T LibMemory bay named same cause why = tt
         not_added T LibDisk bay named same cause why = (named, cause refl)

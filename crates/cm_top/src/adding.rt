@@ -1,5 +1,5 @@
 //! The command `add`.
-ghost use Rattle.std.specs.Prelude.{◌≡◌, ◌<◌, None, Some};
+ghost use Rattle.std.specs.Prelude.{◌≡◌, ◌<◌, [], None, Some};
 ghost use Rattle.std.specs.Option.{ForSome};
 ghost use Rattle.cm_contents.specs.Seals.{SealsVersions};
 ghost use Rattle.cm_pkglib.specs.Counts.{seal_at};
@@ -98,6 +98,7 @@ fn add_tree<D: Disk + Drop>(
     requires stands { ForSome (D.reads library.old.disk) (λ files. look files ≡ Opened library.old.state) }
     requires gate { ForSome (D.reads library.old.disk) (λ files. gate_in files ≡ library.old.end) }
     requires sealed { SealsVersions (seal_at library.old.seals) library.old.state }
+    requires free { library.old.started ≡ [] }
     requires new { last_of «package» library.old.state.lasts ≡ None }
     requires few { count_in library.old.state < 64 }
     requires named { site_name ≡ site }
@@ -129,6 +130,7 @@ fn add_new<D: Disk + Drop>(
     requires stands { ForSome (D.reads library.old.disk) (λ files. look files ≡ Opened library.old.state) }
     requires gate { ForSome (D.reads library.old.disk) (λ files. gate_in files ≡ library.old.end) }
     requires sealed { SealsVersions (seal_at library.old.seals) library.old.state }
+    requires free { library.old.started ≡ [] }
     requires new { last_of «package» library.old.state.lasts ≡ None }
     requires named { site_name ≡ site }
     ensures { (from to : Sourced) → Gathers 64 65536 from.shown tree.now → EndsOn (step_add «package») from to
@@ -152,6 +154,7 @@ fn add_folder<F: Folder, D: Disk + Drop>(
     requires stands { ForSome (D.reads library.old.disk) (λ files. look files ≡ Opened library.old.state) }
     requires gate { ForSome (D.reads library.old.disk) (λ files. gate_in files ≡ library.old.end) }
     requires sealed { SealsVersions (seal_at library.old.seals) library.old.state }
+    requires free { library.old.started ≡ [] }
     requires named { site_name ≡ site }
     ensures { EndsOn (step_add «package») (sourced F.shows F.faults folder.old) (sourced F.shows F.faults folder.new)
         (seen_disk D.reads D.faults library.old.disk) (seen_disk D.reads D.faults library.new.disk) result }

@@ -1,5 +1,5 @@
 //! What becomes of an add that the disk failed.
-use crate::calls::{ABC, Answer, Call, answered};
+use crate::calls::{ABC, Answer, Call, ONE, answered};
 use crate::faults::opens_to;
 use crate::libraries::{FILES, Rows, add, empty_on, has};
 use cm_base::Place;
@@ -21,7 +21,26 @@ fn keeps_file(disk: &MemDisk) -> Option<bool> {
     Some(count == 3 && buf == *b"abc\0")
 }
 
-// Whether the add is done after its fault: its job is finished, or else given up, and the tree is added again.
+// Whether another job makes the version.
+fn is_added_anew(alloc: Global, library: &mut Library<MemDisk>) -> Option<bool> {
+    let Answer::Begun(job) = answered(alloc, library, Call::Begin(1, ONE))? else {
+        return Some(false);
+    };
+    let calls = [
+        Call::Start(job, ABC),
+        Call::Put(job, 0, b"abc"),
+        Call::Seal(job),
+        Call::Finish(job),
+    ];
+    for at in 0..4usize {
+        if answered(alloc, library, calls[at])? != Answer::Done {
+            return Some(false);
+        }
+    }
+    Some(true)
+}
+
+// Whether the add is done after its fault: its job is finished, or else given up, and another makes the version.
 fn is_mended(alloc: Global, library: &mut Library<MemDisk>) -> Option<bool> {
     let _told = library.settle().ok()?;
     if has(library, ADDED) {
@@ -36,7 +55,7 @@ fn is_mended(alloc: Global, library: &mut Library<MemDisk>) -> Option<bool> {
     } else if answer != Answer::NoJob {
         return Some(false);
     }
-    Some(has(library, (&[], &[])) && add(alloc, library, 1, &FILES) == Some(Ok(())))
+    Some(has(library, (&[], &[])) && is_added_anew(alloc, library)?)
 }
 
 // What is left where the device call with this number fails: whether there was an add that the disk failed. None where

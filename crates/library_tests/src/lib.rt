@@ -20,7 +20,13 @@ mod plain;
 #[cfg(test)]
 mod random;
 #[cfg(test)]
+mod refusals;
+#[cfg(test)]
+mod salvages;
+#[cfg(test)]
 mod seals;
+#[cfg(test)]
+mod sharing;
 #[cfg(test)]
 mod steps;
 #[cfg(test)]

@@ -1,4 +1,6 @@
 //! The libraries that the tests begin with, and what they hold.
+ghost use Rattle.std.specs.Prelude.{◌≡◌, [], IfOk, IfSome};
+
 use crate::calls::{Answer, Call, ONE, answered, package};
 use cm_base::Version;
 use cm_disk::MemDisk;
@@ -44,13 +46,15 @@ fn tree_of(alloc: Global, files: &[(&[u8], &[u8])]) -> Option<Gathered> {
     gather(alloc, &mut folder, 64, 65_536).ok()
 }
 
-/// Adds a tree of these files as a version, after settling.
+/// Adds a tree of these files as a version, after settling. No job has started a file.
 pub(crate) fn add(
     alloc: Global,
     library: &mut Library<MemDisk>,
     version: u32,
     files: &[(&[u8], &[u8])],
-) -> Option<Result<(), LibFault>> {
+) -> Option<Result<(), LibFault>>
+    requires { library.old.started ≡ [] }
+{
     let tree = tree_of(alloc, files)?;
     match library.settle() {
         Ok(_) => Some(library.add_tree(alloc, package()?, Version::new(version)?, &tree)),
@@ -67,7 +71,9 @@ pub(crate) fn opened(alloc: Global, disk: MemDisk) -> Option<Library<MemDisk>> {
 }
 
 /// An empty library on an empty disk, or the disk where it failed.
-pub(crate) fn empty_on(alloc: Global, disk: MemDisk) -> Result<Library<MemDisk>, MemDisk> {
+pub(crate) fn empty_on(alloc: Global, disk: MemDisk) -> Result<Library<MemDisk>, MemDisk>
+    ensures { IfOk result (λ library. library.started ≡ []) }
+{
     let mut disk = disk;
     if Library::init(&mut disk).is_err() {
         return Err(disk);
@@ -79,7 +85,9 @@ pub(crate) fn empty_on(alloc: Global, disk: MemDisk) -> Result<Library<MemDisk>,
 }
 
 /// An empty library.
-pub(crate) fn empty(alloc: Global) -> Option<Library<MemDisk>> {
+pub(crate) fn empty(alloc: Global) -> Option<Library<MemDisk>>
+    ensures { IfSome result (λ library. library.started ≡ []) }
+{
     empty_on(alloc, MemDisk::new(alloc, Vec::new(alloc)).ok()?).ok()
 }
 
@@ -95,10 +103,14 @@ pub(crate) fn installed(alloc: Global) -> Option<Library<MemDisk>> {
 /// What `prepared` makes.
 pub(crate) const PREPARED: Rows = (&[(2, 2)], &[1]);
 
-// Whether version 1 was added, and job 2 begun for version 2 with the same manifest.
-fn prepare(alloc: Global, library: &mut Library<MemDisk>) -> bool {
+// Whether version 1 was added, and job 2 begun for version 2 with a manifest.
+fn prepare(alloc: Global, library: &mut Library<MemDisk>, manifest: &'static [u8]) -> bool
+    requires { library.old.started ≡ [] }
+{
     match add(alloc, library, 1, &FILES) {
-        Some(Ok(())) => answered(alloc, library, Call::Begin(2, ONE)) == Some(Answer::Begun(2)),
+        Some(Ok(())) => {
+            answered(alloc, library, Call::Begin(2, manifest)) == Some(Answer::Begun(2))
+        }
         _ => false,
     }
 }
@@ -106,8 +118,17 @@ fn prepare(alloc: Global, library: &mut Library<MemDisk>) -> bool {
 /// A library on an empty disk that has version 1 of `FILES` and the unfinished job 2 for version 2 with the same manifest. The
 /// disk where something failed.
 pub(crate) fn prepared(alloc: Global, disk: MemDisk) -> Result<Library<MemDisk>, MemDisk> {
+    prepared_with(alloc, disk, ONE)
+}
+
+/// The same with another manifest for the job.
+pub(crate) fn prepared_with(
+    alloc: Global,
+    disk: MemDisk,
+    manifest: &'static [u8],
+) -> Result<Library<MemDisk>, MemDisk> {
     let mut library = empty_on(alloc, disk)?;
-    if prepare(alloc, &mut library) {
+    if prepare(alloc, &mut library, manifest) {
         Ok(library)
     } else {
         Err(library.close())

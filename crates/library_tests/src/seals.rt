@@ -1,6 +1,6 @@
 //! Which hashes keep their seals, so that a job that names them can be finished.
-use crate::calls::{ABC, Answer, Call, ONE, THREE, TWICE};
-use crate::libraries::{FILES, add, has, installed};
+use crate::calls::{ABC, Answer, Call, EMPTY, HELLO, ONE, THREE, TWICE};
+use crate::libraries::{has, installed};
 use crate::steps::{Step, again, wrong};
 use std::test::Fail;
 
@@ -83,18 +83,48 @@ fn brought_by_a_version(rt: HostRuntime) -> Result<(), Fail> {
     let mut library = installed(rt.alloc()).ok_or("a library")?;
     let steps: [Step; 1] = [(Call::Begin(2, THREE), Answer::Begun(2), (&[(2, 2)], &[1]))];
     assert!(rt; wrong(rt.alloc(), &mut library, &steps).is_none());
-    let files: [(&[u8], &[u8]); 2] = [(b"a", b"hello"), (b"b", b"")];
-    assert!(rt; add(rt.alloc(), &mut library, 3, &files) == Some(Ok(())));
+    let steps: [Step; 7] = [
+        (
+            Call::Begin(3, THREE),
+            Answer::Begun(3),
+            (&[(2, 2), (3, 3)], &[1]),
+        ),
+        (
+            Call::Start(3, HELLO),
+            Answer::Done,
+            (&[(2, 2), (3, 3)], &[1]),
+        ),
+        (
+            Call::Put(3, 0, b"hello"),
+            Answer::Done,
+            (&[(2, 2), (3, 3)], &[1]),
+        ),
+        (Call::Seal(3), Answer::Done, (&[(2, 2), (3, 3)], &[1])),
+        (
+            Call::Start(3, EMPTY),
+            Answer::Done,
+            (&[(2, 2), (3, 3)], &[1]),
+        ),
+        (Call::Seal(3), Answer::Done, (&[(2, 2), (3, 3)], &[1])),
+        (Call::Finish(3), Answer::Done, (&[(2, 2)], &[1, 3])),
+    ];
+    assert!(rt; wrong(rt.alloc(), &mut library, &steps).is_none());
     let steps: [Step; 2] = [
         (Call::Remove(1), Answer::Done, (&[(2, 2)], &[3])),
         (Call::Finish(2), Answer::Done, (&[], &[2, 3])),
     ];
     assert!(rt; wrong(rt.alloc(), &mut library, &steps).is_none());
     let mut library = again(rt.alloc(), library).ok_or("opened")?;
-    let steps: [Step; 1] = [(Call::Begin(4, ONE), Answer::Begun(4), (&[(4, 4)], &[2, 3]))];
+    let steps: [Step; 3] = [
+        (Call::Begin(4, ONE), Answer::Begun(4), (&[(4, 4)], &[2, 3])),
+        (
+            Call::Begin(5, ONE),
+            Answer::Begun(5),
+            (&[(4, 4), (5, 5)], &[2, 3]),
+        ),
+        (Call::Finish(5), Answer::Done, (&[(4, 4)], &[2, 3, 5])),
+    ];
     assert!(rt; wrong(rt.alloc(), &mut library, &steps).is_none());
-    assert!(rt; add(rt.alloc(), &mut library, 5, &FILES) == Some(Ok(())));
-    assert!(rt; has(&library, (&[(4, 4)], &[2, 3, 5])));
     Ok(())
 }
 

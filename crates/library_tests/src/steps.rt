@@ -23,6 +23,25 @@ pub(crate) fn wrong(
     None
 }
 
+/// A call, and its answer.
+pub(crate) type Reply = (Call, Answer);
+
+/// The number of the first call that goes otherwise, where the rows stay these.
+pub(crate) fn odd(
+    alloc: Global,
+    library: &mut Library<MemDisk>,
+    rows: Rows,
+    replies: &[Reply],
+) -> Option<usize> {
+    for number in 0..replies.len() {
+        let (call, wanted) = replies[number];
+        if answered(alloc, library, call) != Some(wanted) || !has(library, rows) {
+            return Some(number);
+        }
+    }
+    None
+}
+
 /// The library of the same disk, opened again.
 pub(crate) fn again(alloc: Global, library: Library<MemDisk>) -> Option<Library<MemDisk>> {
     opened(alloc, library.close())

@@ -7,16 +7,17 @@ use std::alloc::Global;
 use std::mem;
 use std::test::Fail;
 
-// How far a run came.
+/// How far a run came.
 #[derive(Clone, Copy, PartialEq, Eq)]
-enum Reached {
+pub(crate) enum Reached {
     // The disk failed before the case's call, or there was no memory.
     Before,
     Failed,
     Done,
 }
 
-fn taken(alloc: Global, disk: &mut MemDisk) -> Option<MemDisk> {
+/// The disk, with an empty one in its place.
+pub(crate) fn taken(alloc: Global, disk: &mut MemDisk) -> Option<MemDisk> {
     let other = MemDisk::new(alloc, Vec::new(alloc)).ok()?;
     Some(mem::replace(disk, other))
 }

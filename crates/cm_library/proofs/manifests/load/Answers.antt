@@ -1,12 +1,16 @@
 use Rattle.std.proofs.Common.{List, ℕ, sym, ◌∙◌, ap, Result, Ok, Err}
-use Rattle.std.specs.Prelude.{OnOk}
+use Rattle.std.specs.Prelude.{OnOk, IfOk}
 use Rattle.cm_log.specs.Frames.{OnlyReads}
 use Rattle.cm_log.proofs.Frames.{only_then}
 use Rattle.cm_datalib.specs.Places.{manifest_place}
-use Rattle.cm_contents.proofs.Planned.{if_ok}
 use Rattle.cm_state.specs.State.{Held}
 use Rattle.cm_library.proofs.MapKept.{none_held, still_durable}
 use Rattle.cm_library.proofs.manifests.load.Goals as goal
+
+-- what holds of an Ok's value
+if_ok : {T E : Type 0} {P Q : T → Type 0} → ((x : T) → P x → Q x) → (r : Result T E) → IfOk r P → IfOk r Q
+if_ok f (Ok x) p = f x p
+if_ok f (Err e) p = tt
 
 -- what holds whatever the answer, holds after an Ok
 ok_then : {T E : Type 0} {P : Type 0} (r : Result T E) → P → OnOk r P

@@ -1,5 +1,7 @@
 use Rattle.std.proofs.Common.{◌≡◌, ◌∙◌, ℕ, List, ◌∷◌, [], ◌++◌, ap, sym, subst, refl, length, arith}
 use Rattle.std.specs.Prelude.{vec_capacity, Option, None, IfSome, option_map}
+use Rattle.std.specs.BTreeMap.{get}
+use Rattle.std.specs.Ordering.{nat_cmp}
 use Rattle.cm_pkglib.specs.InMemory.{RowsInMemory}
 use Rattle.cm_pkglib.specs.Rows.{opened_fault}
 use Rattle.cm_pkglib.specs.declared.row.PkgRow.{PkgRow}
@@ -7,7 +9,9 @@ use Rattle.cm_pkglib.proofs.Halves.{ok_items}
 use Rattle.cm_state.specs.declared.row.JobRow.{JobRow}
 use Rattle.cm_state.specs.State.{Held, State, rows_of}
 use Rattle.cm_state.specs.Changes.{Begun, changed}
-use Rattle.cm_contents.specs.Contents.{InMemory, manifest_in_map, state_with, taken_with, AreTold, HasMemory}
+use Rattle.cm_contents.specs.Contents.{InMemory, manifest_in_map, state_with, taken_with, AreTold, HasMemory, AreWanted}
+use Rattle.cm_contents.specs.Wants.{HasHashes}
+use Rattle.cm_contents.proofs.Wanting.{wanted_begun}
 use Rattle.cm_contents.proofs.Keeping.{opened_free, taken_is, taken_row, taken_begun, told_taken, told_begun, memory_same, on_ok}
 use Rattle.cm_contents.proofs.contents.Contents.begin.Goals as goal
 
@@ -43,9 +47,13 @@ invariant_of-self c =
     let pushed = ok_items c.push-pushed.result (c.push-pushed.ensures.succeeds (omega (arith, memory.in_jobs))) c.push-pushed.new.self.items (s.jobs.items ++ told ∷ []) s.jobs.items c.push-pushed.ensures.items in
     let begun = told_begun (state_with f rows) job key.0 key.1 (f key.0 key.1) told s.versions.items s.jobs.items (vec_capacity s.versions) (vec_capacity s.versions)
     c.self.invariant.told (c.job_told-told.ensures ∙ told_taken f job c.row_for-row.result key row_is) memory.in_versions in
+    let next_wants = subst (λ (o : Option (List ℕ × ℕ)). IfSome (option_map (taken_with f) o) (λ held. HasHashes (get nat_cmp s.wants rows.next) held.manifest)) c.in-Some.is c.self.invariant.wanted.by_next in
+    let wants = subst (λ (n : ℕ). HasHashes (get nat_cmp s.wants n) (f key.0 key.1)) (sym c.next-job.ensures) next_wants in
     record {
       told = subst (λ (st : State). AreTold st s.versions.items c.push-pushed.new.self.items (vec_capacity s.versions)) (sym now)
           (subst (λ (js : List JobRow). AreTold (changed (Begun job key.0 key.1 (f key.0 key.1)) (state_with f rows)) s.versions.items js (vec_capacity s.versions)) (sym pushed) begun);
+      wanted = subst (λ (st : State). AreWanted (get nat_cmp s.wants) st None) (sym now)
+          (wanted_begun (get nat_cmp s.wants) (state_with f rows) (option_map (taken_with f) s.taken) job key.0 key.1 (f key.0 key.1) c.self.invariant.wanted wants);
       manifest_kept = refl;
       has_memory = tt;
     }

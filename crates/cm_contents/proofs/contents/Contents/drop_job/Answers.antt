@@ -1,12 +1,15 @@
 use Rattle.std.proofs.Common.{◌≡◌, ◌-◌, List, sym, ◌∙◌, ap, subst, refl, length, arith}
 use Rattle.std.specs.Prelude.{vec_capacity, option_map}
+use Rattle.std.specs.BTreeMap.{get}
+use Rattle.std.specs.Ordering.{nat_cmp}
 use Rattle.cm_pkglib.specs.InMemory.{RowsInMemory}
 use Rattle.cm_pkglib.specs.Rows.{Rows, after}
 use Rattle.cm_pkglib.specs.declared.change.Change.TheVariants.{Dropped as DroppedRecord}
 use Rattle.cm_state.specs.declared.row.JobRow.{JobRow}
 use Rattle.cm_state.specs.State.{State}
 use Rattle.cm_state.specs.Changes.{Dropped, changed}
-use Rattle.cm_contents.specs.Contents.{InMemory, manifest_in_map, state_with, taken_with, AreTold}
+use Rattle.cm_contents.specs.Contents.{InMemory, manifest_in_map, state_with, taken_with, AreTold, AreWanted}
+use Rattle.cm_contents.proofs.Wanting.{next_apart, wanted_ended}
 use Rattle.cm_contents.proofs.Keeping.{change_free, dropped_with, told_dropped, dropped_fewer, memory_same, memory_kept, on_ok}
 use Rattle.cm_contents.proofs.contents.Contents.drop_job.Goals as goal
 
@@ -24,8 +27,11 @@ invariant_of-self c =
     let told = told_dropped (state_with f rows) c.args.job s.versions.items s.jobs.items (vec_capacity s.versions) (vec_capacity s.versions) c.self.invariant.told (omega arith) in
     let told_jobs = subst (λ (js : List JobRow). AreTold (changed (Dropped c.args.job) (state_with f rows)) s.versions.items js (vec_capacity s.versions)) (sym c.take_told-told.ensures.rest) told in
     let few = dropped_fewer c.args.job s.jobs.items c.take_told-told.new.jobs.items c.take_told-told.ensures.rest in
+    let apart = next_apart rows c.args.job (change_free f rows c.args.self.now.state (DroppedRecord c.args.job) (ap (λ (m : InMemory). m.state) c.self.view_is) c.requires) c.jobs-unfinished.ensures.valid.below_next in
     record {
       told = subst (λ (t : State). AreTold t s.versions.items c.take_told-told.new.jobs.items (vec_capacity s.versions)) (sym (ap (λ (r : Rows). state_with f r) moved ∙ dropped_with f rows c.args.job)) told_jobs;
+      wanted = subst (λ (t : State). AreWanted (get nat_cmp c.drop_wants.new.wants) t (option_map (taken_with f) s.taken)) (sym (ap (λ (r : Rows). state_with f r) moved ∙ dropped_with f rows c.args.job))
+          (wanted_ended (get nat_cmp s.wants) (get nat_cmp c.drop_wants.new.wants) c.args.job c.drop_wants.ensures.others (state_with f rows) (changed (Dropped c.args.job) (state_with f rows)) (option_map (taken_with f) s.taken) refl refl apart c.self.invariant.wanted);
       manifest_kept = c.self.invariant.manifest_kept;
       has_memory = memory_kept (option_map (taken_with f) s.taken) s.rows.room (length s.versions.items) (length s.jobs.items) (vec_capacity s.versions) (vec_capacity s.jobs)
           c.apply-applied.new.self.room (length s.versions.items) (length c.take_told-told.new.jobs.items) (vec_capacity s.versions) (vec_capacity c.take_told-told.new.jobs)

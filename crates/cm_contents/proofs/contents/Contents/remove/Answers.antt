@@ -1,12 +1,14 @@
 use Rattle.std.proofs.Common.{◌≡◌, ◌-◌, List, sym, ◌∙◌, ap, subst, refl, length, arith}
 use Rattle.std.specs.Prelude.{vec_capacity, option_map}
+use Rattle.std.specs.BTreeMap.{get}
+use Rattle.std.specs.Ordering.{nat_cmp}
 use Rattle.cm_pkglib.specs.InMemory.{RowsInMemory}
 use Rattle.cm_pkglib.specs.Rows.{Rows, after}
 use Rattle.cm_pkglib.specs.declared.change.Change.TheVariants.{Removed as RemovedRecord}
 use Rattle.cm_state.specs.declared.row.VersionRow.{VersionRow}
 use Rattle.cm_state.specs.State.{State}
 use Rattle.cm_state.specs.Changes.{Removed, changed}
-use Rattle.cm_contents.specs.Contents.{InMemory, manifest_in_map, state_with, taken_with, AreTold}
+use Rattle.cm_contents.specs.Contents.{InMemory, manifest_in_map, state_with, taken_with, AreTold, AreWanted}
 use Rattle.cm_contents.proofs.Keeping.{change_free, removed_with, told_removed, removed_fewer, memory_same, memory_kept, on_ok}
 use Rattle.cm_contents.proofs.contents.Contents.remove.Goals as goal
 
@@ -28,6 +30,8 @@ invariant_of-self c =
     let few = removed_fewer id version s.versions.items c.drop_told.new.rows.items c.drop_told.ensures.rows in
     record {
       told = subst (λ (t : State). AreTold t c.drop_told.new.rows.items s.jobs.items (vec_capacity c.drop_told.new.rows)) (sym (ap (λ (r : Rows). state_with f r) moved ∙ removed_with f rows id version)) told_versions;
+      wanted = subst (λ (t : State). AreWanted (get nat_cmp s.wants) t (option_map (taken_with f) s.taken)) (sym (ap (λ (r : Rows). state_with f r) moved ∙ removed_with f rows id version))
+          (record { by_jobs = c.self.invariant.wanted.by_jobs; by_next = c.self.invariant.wanted.by_next });
       manifest_kept = c.self.invariant.manifest_kept;
       has_memory = memory_kept (option_map (taken_with f) s.taken) s.rows.room (length s.versions.items) (length s.jobs.items) (vec_capacity s.versions) (vec_capacity s.jobs)
           c.apply-applied.new.self.room (length c.drop_told.new.rows.items) (length s.jobs.items) (vec_capacity c.drop_told.new.rows) (vec_capacity s.jobs)

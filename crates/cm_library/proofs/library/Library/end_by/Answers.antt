@@ -1,10 +1,14 @@
-use Rattle.std.proofs.Common.{inr, sym, ◌∙◌, ap, subst}
-use Rattle.std.specs.Prelude.{None}
+use Rattle.std.proofs.Common.{List, ℕ, inl, inr, sym, ◌∙◌, ap, subst}
+use Rattle.std.specs.Prelude.{None, Err}
 use Rattle.cm_disk.specs.Disk.{IsImage, LeavesOnly}
+use Rattle.cm_filelib.specs.declared.writing.Writing.{Writing}
+use Rattle.cm_state.specs.declared.fault.LibFault.{LibFault}
 use Rattle.cm_state.specs.Changes.{if_allowed}
 use Rattle.cm_state.specs.Opens.{OpensOr, StandsOr, EachOpensSome}
 use Rattle.cm_state.specs.State.{State}
 use Rattle.cm_contents.specs.Contents.{change_in}
+use Rattle.cm_library.specs.Calls.{AnyMoment}
+use Rattle.cm_library.specs.Started.{left_by}
 use Rattle.cm_library.specs.Kept.{Seen}
 use Rattle.cm_library.proofs.AnyMoment.{not_ok, one_found, not_settled, then_done}
 use Rattle.cm_library.proofs.library.Library.end_by.Goals as goal
@@ -13,8 +17,34 @@ pub returns-in-Err-clause-any_moment : goal.returns-in-Err-clause-any_moment
 returns-in-Err-clause-any_moment g c x told found is =
     let d = g.D.Disk in
     let was = c.args.self.now in
-    not_settled d.moment d.left_since StandsOr (if_allowed (change_in None c.args.change.now)) was.disk c.settle.new.self.disk (IsImage (d.may_leave was.disk)) c.settle.ensures.only.run was.state found was.pending
-    (λ none. not_ok _ _ (c.in-Err.ensures.was_settled none).0) (c.tells.ensures.stands x told)
+    subst (λ (new : g.row.D.Denot). AnyMoment d.moment d.left_since StandsOr (if_allowed (change_in None c.args.change.now)) was.disk new was.state was.pending found) (sym c.leave_by.ensures.disk)
+    (not_settled d.moment d.left_since StandsOr (if_allowed (change_in None c.args.change.now)) was.disk c.settle.new.self.disk (IsImage (d.may_leave was.disk)) c.settle.ensures.only.run was.state found was.pending
+    (λ none. not_ok _ _ (c.in-Err.ensures.was_settled none).0) (c.tells.ensures.stands x told))
+
+pub returns-in-Err-clause-opens : goal.returns-in-Err-clause-opens
+returns-in-Err-clause-opens g c whole x told found is =
+    let d = g.D.Disk in
+    let was = c.args.self.now in
+    subst (λ (new : g.row.D.Denot). AnyMoment d.moment d.left_since OpensOr (if_allowed (change_in None c.args.change.now)) was.disk new was.state was.pending found) (sym c.leave_by.ensures.disk)
+    (not_settled d.moment d.left_since OpensOr (if_allowed (change_in None c.args.change.now)) was.disk c.settle.new.self.disk (IsImage (d.may_leave was.disk)) c.settle.ensures.only.run was.state found was.pending
+    (λ none. not_ok _ _ (c.in-Err.ensures.was_settled none).0) (c.tells.ensures.opens whole x told))
+
+pub returns-in-Err-clause-call : goal.returns-in-Err-clause-call
+returns-in-Err-clause-call g c =
+    let failed = c.in-Err.ensures.failed in
+    let rows = c.leave_by.ensures.rows in
+    inl (
+      ap (λ (fault : LibFault). Err fault) failed.0,
+      (λ none. not_ok _ _ (c.in-Err.ensures.was_settled none).0),
+      record {
+        start = rows.start ∙ failed.1.start;
+        state = rows.state ∙ failed.1.state;
+        seals = c.leave_by.ensures.seals ∙ failed.1.seals;
+        started = c.leave_by.ensures.started ∙ ap (λ (files : List (ℕ × Writing)). left_by (change_in None c.args.change.now) files) failed.1.started;
+        end = rows.end ∙ failed.1.end;
+        pending = rows.pending ∙ failed.1.pending;
+      },
+    )
 
 pub returns-clause-any_moment : goal.returns-clause-any_moment
 returns-clause-any_moment g c x told found is =
@@ -27,13 +57,6 @@ returns-clause-any_moment g c x told found is =
     then_done d.moment d.left_since StandsOr (if_allowed (change_in None c.args.change.now)) was.disk mid.disk (IsImage (d.may_leave was.disk)) c.settle.ensures.only.run was.state found new.disk was.pending (c.tells.ensures.stands x told)
     (λ none. ap (λ (s : Seen g.row.D.Denot). s.disk) (c.settle.ensures.was_settled none).1)
     (subst (λ (s : State). LeavesOnly d.moment d.left_since mid.disk new.disk (StandsOr s (if_allowed (change_in None c.args.change.now) s))) (sym same) stands)
-
-pub returns-in-Err-clause-opens : goal.returns-in-Err-clause-opens
-returns-in-Err-clause-opens g c whole x told found is =
-    let d = g.D.Disk in
-    let was = c.args.self.now in
-    not_settled d.moment d.left_since OpensOr (if_allowed (change_in None c.args.change.now)) was.disk c.settle.new.self.disk (IsImage (d.may_leave was.disk)) c.settle.ensures.only.run was.state found was.pending
-    (λ none. not_ok _ _ (c.in-Err.ensures.was_settled none).0) (c.tells.ensures.opens whole x told)
 
 pub returns-clause-opens : goal.returns-clause-opens
 returns-clause-opens g c whole x told found is =
