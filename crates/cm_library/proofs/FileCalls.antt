@@ -1,5 +1,5 @@
 -- What the type keeps where a job works on a file.
-use Rattle.std.proofs.Common.{◌≡◌, ℕ, List, false, refl, sym, ◌∙◌, ap, subst}
+use Rattle.std.proofs.Common.{◌≡◌, ℕ, List, length, false, refl, sym, ◌∙◌, ap, subst}
 use Rattle.std.specs.Prelude.{◌≢◌, ◌==◌, not, Option, None, Some, Result, Ok, Err}
 use Rattle.std.specs.Option.{ForSome}
 use Rattle.std.specs.List.{AllByRecursion}
@@ -44,7 +44,7 @@ other_hashes job hash started others = all_through (λ (file : ℕ × Writing). 
 
 -- the place of a hash was worked on
 module _ (old new : Option Files) (s : State) (seals : Hash → Option Seal) (job : ℕ) (hash : Hash) (started : List (ℕ × Writing)) (files : AreStarted old s seals None started)
-    (bytes : IsBytes hash.0) (but : Told (SameBut (file_place hash.0)) old new) (silent : old ≡ None → new ≡ None) where
+    (bytes : IsBytes hash.0) (long : length hash.0 ≡ 32) (but : Told (SameBut (file_place hash.0)) old new) (silent : old ≡ None → new ≡ None) where
   -- the job has given up its file
   pub files_left : AreOthers job hash (without_file job started) → AreStarted new s seals None (without_file job started)
   files_left others =
@@ -57,6 +57,7 @@ module _ (old new : Option Files) (s : State) (seals : Hash → Option Seal) (jo
   files_with writing others wanted unsealed named idle stands =
       files_more new s seals job writing (without_file job started) (record {
         bytes = subst (λ (h : Hash). IsBytes h.0) (sym named) bytes;
+        long = ap (λ (h : Hash). length h.0) named ∙ long;
         wanted = ap (λ (h : Hash). size_in h (job_manifest job s)) named ∙ wanted;
         unsealed = ap seals named ∙ unsealed;
         idle = idle;

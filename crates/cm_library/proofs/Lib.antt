@@ -5,6 +5,7 @@ pub mod FileCalls
 pub mod FilesWritten
 pub mod FilledJob
 pub mod Keeps
+pub mod KeptPlaces
 pub mod ManifestStored
 pub mod MapKept
 pub mod Naming

@@ -133,7 +133,7 @@ pub files_failed : (r : Option Files) (s : State) (seals : Hash → Option Seal)
 files_failed r s seals change started ends are = record { each = are.each; apart = are.apart; written = are.written; ending = ends }
 
 unsealed_each : (s : State) (seals seals' : Hash → Option Seal) → ((hash : Hash) → seals hash ≡ None → seals' hash ≡ None) → (file : File) → IsStarted s seals file → IsStarted s seals' file
-unsealed_each s seals seals' none file is = record { bytes = is.bytes; wanted = is.wanted; unsealed = none (hash_of file.1) is.unsealed; idle = is.idle }
+unsealed_each s seals seals' none file is = record { bytes = is.bytes; long = is.long; wanted = is.wanted; unsealed = none (hash_of file.1) is.unsealed; idle = is.idle }
 
 -- no more hashes are sealed
 pub files_unsealed : (r : Option Files) (s : State) (seals seals' : Hash → Option Seal) (pending : Option StateChange) (started : List (ℕ × Writing)) → ((hash : Hash) → seals hash ≡ None → seals' hash ≡ None) → AreStarted r s seals pending started → AreStarted r s seals' None started
@@ -190,7 +190,7 @@ pub files_sealed : (r : Option Files) (s : State) (seals seals' : Hash → Optio
     → SealsIt hash size seals seals' → AreStarted r s seals None started → AreStarted r s seals' None started
 files_sealed r s seals seals' hash size started apart seals_it are = record {
   each = all_join (λ (file : File). (hash_of file.1).0 ≢ hash.0) (IsStarted s seals) (IsStarted s seals')
-      (λ file other is. record { bytes = is.bytes; wanted = is.wanted; unsealed = seals_it (hash_of file.1) ∙ by file other (bytes_eq hash.0 (hash_of file.1).0) refl ∙ is.unsealed; idle = is.idle }) started apart are.each;
+      (λ file other is. record { bytes = is.bytes; long = is.long; wanted = is.wanted; unsealed = seals_it (hash_of file.1) ∙ by file other (bytes_eq hash.0 (hash_of file.1).0) refl ∙ is.unsealed; idle = is.idle }) started apart are.each;
   apart = are.apart;
   written = are.written;
   ending = tt;
@@ -385,6 +385,7 @@ files_done r s t seals seals' pending change started is ends keeps are = record 
     still : (file : File) → IsStarted s seals file → IsOther change file.0 → IsStarted t seals' file
     still file was other = record {
       bytes = was.bytes;
+      long = was.long;
       wanted = ap (λ (u : State). size_in (hash_of file.1) (job_manifest file.0 u)) is ∙ wanted_still s change file.0 (hash_of file.1) (size_of file.1) other was.wanted;
       unsealed = keeps (hash_of file.1) ∙ ap (λ (o : Option Seal). if_needed (is_needed (hash_of file.1).0 t) o) was.unsealed ∙ never (is_needed (hash_of file.1).0 t);
       idle = was.idle;

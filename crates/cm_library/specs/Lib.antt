@@ -4,5 +4,6 @@ pub mod Filing
 pub mod Kept
 pub mod Loads
 pub mod Opening
+pub mod Placing
 pub mod Started
 pub mod Storing

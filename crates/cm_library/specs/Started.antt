@@ -1,5 +1,5 @@
 -- The files that jobs have started.
-use Rattle.std.specs.Prelude.{◌≡◌, ◌≢◌, ℕ, ◌+◌, ◌==◌, ◌&&◌, not, false, is_some, if◌then◌else◌, nat_lt, List, [], ◌∷◌, ◌++◌, take, drop, find, filter, Option, None, Some, IfSome, option_map}
+use Rattle.std.specs.Prelude.{◌≡◌, ◌≢◌, ℕ, ◌+◌, ◌==◌, ◌&&◌, not, false, is_some, if◌then◌else◌, nat_lt, List, [], ◌∷◌, ◌++◌, length, take, drop, find, filter, Option, None, Some, IfSome, option_map}
 use Rattle.std.specs.Option.{ForSome}
 use Rattle.std.specs.List.{AllByRecursion}
 use Rattle.std.specs.Str.{bytes_eq}
@@ -50,10 +50,11 @@ EndsNone (Finished job) started = started_by job started ≡ None
 EndsNone (Dropped job) started = started_by job started ≡ None
 EndsNone (Removed id version) started = Unit {0}
 
--- A started file is one that its unfinished job wants, with the size of the first entry of its hash; it is not sealed, and no write to it
+-- A started file is one that its unfinished job wants, named by 32 bytes, with the size of the first entry of its hash; it is not sealed, and no write to it
 -- has failed.
 pub record IsStarted (state : State) (seals : Hash → Option Seal) (file : ℕ × Writing) : Type 0 where
   pub bytes : IsBytes (hash_of file.1).0
+  pub long : length (hash_of file.1).0 ≡ 32
   pub wanted : size_in (hash_of file.1) (job_manifest file.0 state) ≡ Some (size_of file.1)
   pub unsealed : seals (hash_of file.1) ≡ None
   pub idle : is_spent file.1 ≡ false

@@ -13,6 +13,7 @@ ghost use Rattle.cm_state.specs.Needed.{is_named};
 ghost use Rattle.cm_state.specs.Sound.{IsSound};
 ghost use Rattle.cm_contents.specs.Seals.{SealsVersions};
 ghost use Rattle.cm_library.specs.Calls.{StaysSame};
+ghost use Rattle.cm_library.specs.Placing.{KeepsPlaces};
 ghost use Rattle.cm_state.specs.Whole.{changes_of_add};
 ghost use Rattle.cm_state.specs.Faults.{begin_fault, limit_fault, Refuses};
 
@@ -47,6 +48,7 @@ impl<D: Disk> Library<D> {
         ensures files { SealsVersions (seal_at self.old.seals) self.old.state → OnOk result (Told (AddsTree self.old.state tree.now) (D.reads self.old.disk) (D.reads self.new.disk)) }
         ensures refused { Refuses (begin_fault self.old.state self.old.end «package» version (length tree.now)) result }
         ensures unchanged { IfErr result (λ fault. fault ≢ LibFault.Disk → StaysSame self.old self.new ⊎ ((fault ≡ LibFault.Memory) × (self.new.state ≡ changed (Begun self.old.state.next «package» version (manifest_of tree.now)) self.old.state))) }
+        ensures places { Told KeepsPlaces (D.reads self.old.disk) (D.reads self.new.disk) }
         ensures later { D.faults self.old.disk ≤ D.faults self.new.disk }
         ensures cause { IsErrOf result LibFault.Disk → Rose (D.faults self.old.disk) (D.faults self.new.disk) }
     {
@@ -97,6 +99,7 @@ impl<D: Disk> Library<D> {
         // A package that was never opened is refused by a limit alone.
         ensures limits { last_of «package» self.old.state.lasts ≡ None → Refuses (limit_fault self.old.state self.old.end (length tree.now)) result }
         ensures unchanged { IfErr result (λ fault. fault ≢ LibFault.Disk → StaysSame self.old self.new ⊎ ((fault ≡ LibFault.Memory) × (self.new.state ≡ changed (Begun self.old.state.next «package» version (manifest_of tree.now)) self.old.state))) }
+        ensures places { Told KeepsPlaces (D.reads self.old.disk) (D.reads self.new.disk) }
         ensures later { D.faults self.old.disk ≤ D.faults self.new.disk }
         ensures cause { IsErrOf result LibFault.Disk → Rose (D.faults self.old.disk) (D.faults self.new.disk) }
     {

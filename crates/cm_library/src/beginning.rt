@@ -18,6 +18,7 @@ ghost use Rattle.cm_contents.specs.Seals.{IsCounted};
 ghost use Rattle.cm_library.specs.Begins.{MayBegin};
 ghost use Rattle.cm_library.specs.Calls.{KeepsNeeded, KeepsSeals, StaysSame, AnyMoment, Ends, EndsOrStays};
 ghost use Rattle.cm_library.specs.Kept.{IsStanding, AreSure, IsKept};
+ghost use Rattle.cm_library.specs.Placing.{KeepsPlaces};
 
 use crate::commits::commit;
 use crate::ending::of_rows;
@@ -73,6 +74,7 @@ fn store_and_commit<D: Disk>(
     ensures stands { ForSome (D.reads disk.old) (λ _. LeavesOnly D.moment D.left_since disk.old disk.new (StandsOr contents.old.state (Some (Begun job «package» version (taken_manifest contents.old.taken))))) }
     ensures opens { EachOpensSome (D.may_leave start.now.value) → ForSome (D.reads disk.old) (λ _. LeavesOnly D.moment D.left_since disk.old disk.new (OpensOr contents.old.state (Some (Begun job «package» version (taken_manifest contents.old.taken))))) }
     ensures store { Told KeepsStore (D.reads disk.old) (D.reads disk.new) }
+    ensures places { Told KeepsPlaces (D.reads disk.old) (D.reads disk.new) }
     ensures silent { D.reads disk.old ≡ None → D.reads disk.new ≡ None }
     ensures cause { HasCause (D.faults disk.old) (D.faults disk.new) result }
 {
@@ -134,6 +136,7 @@ impl<D: Disk> Library<D> {
         ensures refused { Refuses (begin_fault self.old.state self.old.end «package» version (length manifest)) result }
         ensures unchanged { IfErr result (λ fault. fault ≢ LibFault.Disk → StaysSame self.old self.new) }
         ensures store { Told KeepsStore (D.reads self.old.disk) (D.reads self.new.disk) }
+        ensures places { Told KeepsPlaces (D.reads self.old.disk) (D.reads self.new.disk) }
         ensures stands { ForSome (D.reads self.old.disk) (λ _. LeavesOnly D.moment D.left_since self.old.disk self.new.disk (StandsOr self.old.state (if_allowed (Begun self.old.state.next «package» version manifest) self.old.state))) }
         ensures opens { EachOpensSome (D.may_leave self.old.start) → ForSome (D.reads self.old.disk) (λ _. LeavesOnly D.moment D.left_since self.old.disk self.new.disk (OpensOr self.old.state (if_allowed (Begun self.old.state.next «package» version manifest) self.old.state))) }
         ensures later { D.faults self.old.disk ≤ D.faults self.new.disk }
@@ -186,6 +189,7 @@ impl<D: Disk> Library<D> {
         ensures unchanged { self.old.pending ≡ None → IfErr result (λ fault. fault ≢ LibFault.Disk → StaysSame self.old self.new) }
         ensures same { IfErr result (λ fault. fault ≢ LibFault.Disk → D.reads self.new.disk ≡ D.reads self.old.disk) }
         ensures store { Told KeepsStore (D.reads self.old.disk) (D.reads self.new.disk) }
+        ensures places { Told KeepsPlaces (D.reads self.old.disk) (D.reads self.new.disk) }
         // A crash at any moment leaves the state before the change or after it.
         ensures any_moment { ForSome (D.reads self.old.disk) (λ files. (found : State) → look files ≡ Opened found → AnyMoment D.moment D.left_since StandsOr (λ s. if_allowed (Begun s.next «package» version manifest) s) self.old.disk self.new.disk self.old.state self.old.pending found) }
         // With all files of its versions, where each image opened to some state at the opening.

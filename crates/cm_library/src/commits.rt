@@ -18,6 +18,7 @@ ghost use Rattle.cm_contents.specs.Contents.{change_in, IsTakenFor};
 ghost use Rattle.cm_contents.specs.Seals.{brought, IsCounted, AreStored};
 ghost use Rattle.cm_library.specs.Calls.{KeepsNeeded, KeepsSeals, MayFind, Tells};
 ghost use Rattle.cm_library.specs.Kept.{pending_in, IsStanding, AreSure, IsKept};
+ghost use Rattle.cm_library.specs.Placing.{KeepsPlaces};
 
 use cm_contents::{Contents, make, uncount_taken};
 use cm_disk::{Disk, DiskFault};
@@ -78,6 +79,7 @@ pub(crate) fn commit<D: Disk>(
     ensures stands { ForSome (D.reads disk.old) (λ _. LeavesOnly D.moment D.left_since disk.old disk.new (StandsOr contents.old.state (Some (change_in contents.old.taken change.now)))) }
     ensures opens { EachOpensSome (D.may_leave start.now.value) → ForSome (D.reads disk.old) (λ _. LeavesOnly D.moment D.left_since disk.old disk.new (OpensOr contents.old.state (Some (change_in contents.old.taken change.now)))) }
     ensures store { Told KeepsStore (D.reads disk.old) (D.reads disk.new) }
+    ensures places { Told KeepsPlaces (D.reads disk.old) (D.reads disk.new) }
     ensures silent { D.reads disk.old ≡ None → D.reads disk.new ≡ None }
     ensures cause { HasCause (D.faults disk.old) (D.faults disk.new) result }
 {

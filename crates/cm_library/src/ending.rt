@@ -16,6 +16,7 @@ ghost use Rattle.cm_contents.specs.Contents.{change_in};
 ghost use Rattle.cm_contents.specs.Seals.{end_fault};
 ghost use Rattle.cm_library.specs.Calls.{AnyMoment, Ends, EndsOrStays};
 ghost use Rattle.cm_library.specs.Filing.{KeepsRows};
+ghost use Rattle.cm_library.specs.Placing.{KeepsPlaces};
 ghost use Rattle.cm_library.specs.Started.{left_by};
 
 use crate::commits::commit;
@@ -114,6 +115,7 @@ impl<D: Disk> Library<D> {
         ensures refused { RefusesOr (end_fault (seal_at self.old.seals) self.old.state (change_in None change.now)) result }
         ensures unchanged { IfErr result (λ fault. fault ≢ LibFault.Disk → self.new ≡ self.old) }
         ensures store { Told KeepsStore (D.reads self.old.disk) (D.reads self.new.disk) }
+        ensures places { Told KeepsPlaces (D.reads self.old.disk) (D.reads self.new.disk) }
         ensures stands { ForSome (D.reads self.old.disk) (λ _. LeavesOnly D.moment D.left_since self.old.disk self.new.disk (StandsOr self.old.state (if_allowed (change_in None change.now) self.old.state))) }
         ensures opens { EachOpensSome (D.may_leave self.old.start) → ForSome (D.reads self.old.disk) (λ _. LeavesOnly D.moment D.left_since self.old.disk self.new.disk (OpensOr self.old.state (if_allowed (change_in None change.now) self.old.state))) }
         ensures later { D.faults self.old.disk ≤ D.faults self.new.disk }
@@ -157,6 +159,7 @@ impl<D: Disk> Library<D> {
         ensures unchanged { self.old.pending ≡ None → IfErr result (λ fault. fault ≢ LibFault.Disk → self.new ≡ self.old) }
         ensures same { IfErr result (λ fault. fault ≢ LibFault.Disk → D.reads self.new.disk ≡ D.reads self.old.disk) }
         ensures store { Told KeepsStore (D.reads self.old.disk) (D.reads self.new.disk) }
+        ensures places { Told KeepsPlaces (D.reads self.old.disk) (D.reads self.new.disk) }
         ensures any_moment { ForSome (D.reads self.old.disk) (λ files. (found : State) → look files ≡ Opened found → AnyMoment D.moment D.left_since StandsOr (if_allowed (change_in None change.now)) self.old.disk self.new.disk self.old.state self.old.pending found) }
         ensures opens { EachOpensSome (D.may_leave self.old.start) → ForSome (D.reads self.old.disk) (λ files. (found : State) → look files ≡ Opened found → AnyMoment D.moment D.left_since OpensOr (if_allowed (change_in None change.now)) self.old.disk self.new.disk self.old.state self.old.pending found) }
         ensures later { D.faults self.old.disk ≤ D.faults self.new.disk }
@@ -181,6 +184,7 @@ impl<D: Disk> Library<D> {
         ensures unchanged { self.old.pending ≡ None → IfErr result (λ fault. fault ≢ LibFault.Disk → self.new ≡ self.old) }
         ensures same { IfErr result (λ fault. fault ≢ LibFault.Disk → D.reads self.new.disk ≡ D.reads self.old.disk) }
         ensures store { Told KeepsStore (D.reads self.old.disk) (D.reads self.new.disk) }
+        ensures places { Told KeepsPlaces (D.reads self.old.disk) (D.reads self.new.disk) }
         // A crash at any moment leaves the state before the change or after it.
         ensures any_moment { ForSome (D.reads self.old.disk) (λ files. (found : State) → look files ≡ Opened found → AnyMoment D.moment D.left_since StandsOr (if_allowed (Finished job)) self.old.disk self.new.disk self.old.state self.old.pending found) }
         // With all files of its versions, where each image opened to some state at the opening.
@@ -198,6 +202,7 @@ impl<D: Disk> Library<D> {
         ensures unchanged { self.old.pending ≡ None → IfErr result (λ fault. fault ≢ LibFault.Disk → self.new ≡ self.old) }
         ensures same { IfErr result (λ fault. fault ≢ LibFault.Disk → D.reads self.new.disk ≡ D.reads self.old.disk) }
         ensures store { Told KeepsStore (D.reads self.old.disk) (D.reads self.new.disk) }
+        ensures places { Told KeepsPlaces (D.reads self.old.disk) (D.reads self.new.disk) }
         // A crash at any moment leaves the state before the change or after it.
         ensures any_moment { ForSome (D.reads self.old.disk) (λ files. (found : State) → look files ≡ Opened found → AnyMoment D.moment D.left_since StandsOr (if_allowed (Dropped job)) self.old.disk self.new.disk self.old.state self.old.pending found) }
         // With all files of its versions, where each image opened to some state at the opening.
@@ -215,6 +220,7 @@ impl<D: Disk> Library<D> {
         ensures unchanged { self.old.pending ≡ None → IfErr result (λ fault. fault ≢ LibFault.Disk → self.new ≡ self.old) }
         ensures same { IfErr result (λ fault. fault ≢ LibFault.Disk → D.reads self.new.disk ≡ D.reads self.old.disk) }
         ensures store { Told KeepsStore (D.reads self.old.disk) (D.reads self.new.disk) }
+        ensures places { Told KeepsPlaces (D.reads self.old.disk) (D.reads self.new.disk) }
         // A crash at any moment leaves the state before the change or after it.
         ensures any_moment { ForSome (D.reads self.old.disk) (λ files. (found : State) → look files ≡ Opened found → AnyMoment D.moment D.left_since StandsOr (if_allowed (Removed «package» version)) self.old.disk self.new.disk self.old.state self.old.pending found) }
         // With all files of its versions, where each image opened to some state at the opening.

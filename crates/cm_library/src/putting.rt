@@ -12,6 +12,7 @@ ghost use Rattle.cm_state.specs.Opens.{OpensOr, StandsOr, EachOpensSome};
 ghost use Rattle.cm_state.specs.State.{State};
 ghost use Rattle.cm_library.specs.Calls.{AnyMoment, WorksOrStays};
 ghost use Rattle.cm_library.specs.Filing.{KeepsRows, SameBut, GoesOn, Puts};
+ghost use Rattle.cm_library.specs.Placing.{KeepsPlaces};
 ghost use Rattle.cm_library.specs.Started.{started_by, without_file, file_fault, misplaced, put_fault};
 
 use crate::library::Library;
@@ -82,6 +83,7 @@ impl<D: Disk> Library<D> {
         ensures failed { IfErr result (λ fault. fault ≡ LibFault.Disk → self.new.started ≡ without_file job self.old.started) }
         ensures written { OnOk result (ForSome (started_by job self.old.started) (λ was. Told (λ files now. now ≡ put_at files (place_of was) (appended bytes.now (files (place_of was)))) (D.reads self.old.disk) (D.reads self.new.disk))) }
         ensures others { ForSome (started_by job self.old.started) (λ was. Told (SameBut (place_of was)) (D.reads self.old.disk) (D.reads self.new.disk)) }
+        ensures places { Told KeepsPlaces (D.reads self.old.disk) (D.reads self.new.disk) }
         ensures stands { ForSome (D.reads self.old.disk) (λ _. LeavesOnly D.moment D.left_since self.old.disk self.new.disk (StandsOr self.old.state None)) }
         ensures opens { EachOpensSome (D.may_leave self.old.start) → ForSome (D.reads self.old.disk) (λ _. LeavesOnly D.moment D.left_since self.old.disk self.new.disk (OpensOr self.old.state None)) }
         ensures later { D.faults self.old.disk ≤ D.faults self.new.disk }
@@ -112,6 +114,7 @@ impl<D: Disk> Library<D> {
     pub fn put(&mut self, job: JobId, offset: u64, bytes: &[u8]) -> Result<(), LibFault>
         requires piece { length bytes.now ≤ 65536 }
         ensures call { WorksOrStays D.reads (without_file job) (λ mid new. Puts D.reads job offset bytes.now mid new result) self.old self.new result }
+        ensures places { Told KeepsPlaces (D.reads self.old.disk) (D.reads self.new.disk) }
         // A crash at any moment leaves the state.
         ensures any_moment { ForSome (D.reads self.old.disk) (λ files. (found : State) → look files ≡ Opened found → AnyMoment D.moment D.left_since StandsOr (λ _. None) self.old.disk self.new.disk self.old.state self.old.pending found) }
         // With all files of its versions, where each image opened to some state at the opening.

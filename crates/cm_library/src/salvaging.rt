@@ -4,6 +4,7 @@ ghost use Rattle.std.specs.Option.{ForSome};
 ghost use Rattle.cm_base.specs.Causes.{Rose};
 ghost use Rattle.cm_disk.specs.Disk.{LeavesOnly};
 ghost use Rattle.cm_pkglib.specs.Counts.{seal_at};
+ghost use Rattle.cm_state.specs.Adding.{Told};
 ghost use Rattle.cm_state.specs.Faults.{RefusesOr};
 ghost use Rattle.cm_state.specs.Look.{Opened, look};
 ghost use Rattle.cm_state.specs.Opens.{OpensOr, StandsOr, EachOpensSome};
@@ -12,6 +13,7 @@ ghost use Rattle.cm_contents.specs.Seals.{job_manifest};
 ghost use Rattle.cm_contents.specs.Wants.{size_in};
 ghost use Rattle.cm_library.specs.Calls.{AnyMoment, WorksOrStays};
 ghost use Rattle.cm_library.specs.Filing.{KeepsRows, SealsIt, TellsPlace, Salvages};
+ghost use Rattle.cm_library.specs.Placing.{KeepsPlaces};
 ghost use Rattle.cm_library.specs.Started.{without_own, salvage_fault};
 
 use crate::library::Library;
@@ -63,7 +65,7 @@ impl<D: Disk> Library<D> {
         if self.counts.sealed(hash).is_some() {
             return Ok(true);
         }
-        show_bytes(&hash.0);
+        show_bytes(hash);
         leave_own(&mut self.started, job, hash);
         match salvage(&mut self.disk, hash, size) {
             Ok(true) => {
@@ -80,6 +82,7 @@ impl<D: Disk> Library<D> {
     /// `NoJob`, `Unwanted`, `HeldBy`. The job's own started file of this hash is given up first. It takes no memory.
     pub fn salvage(&mut self, job: JobId, hash: Hash) -> Result<bool, LibFault>
         ensures call { WorksOrStays D.reads (λ started. started) (λ mid new. Salvages D.reads job hash mid new result) self.old self.new result }
+        ensures places { Told KeepsPlaces (D.reads self.old.disk) (D.reads self.new.disk) }
         // A crash at any moment leaves the state.
         ensures any_moment { ForSome (D.reads self.old.disk) (λ files. (found : State) → look files ≡ Opened found → AnyMoment D.moment D.left_since StandsOr (λ _. None) self.old.disk self.new.disk self.old.state self.old.pending found) }
         // With all files of its versions, where each image opened to some state at the opening.

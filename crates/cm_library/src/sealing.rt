@@ -5,12 +5,14 @@ ghost use Rattle.cm_base.specs.Causes.{Rose};
 ghost use Rattle.cm_disk.specs.Disk.{LeavesOnly};
 ghost use Rattle.cm_pkglib.specs.Counts.{seal_at};
 ghost use Rattle.cm_filelib.specs.Writings.{hash_of, size_of};
+ghost use Rattle.cm_state.specs.Adding.{Told};
 ghost use Rattle.cm_state.specs.Faults.{RefusesOr};
 ghost use Rattle.cm_state.specs.Look.{Opened, look};
 ghost use Rattle.cm_state.specs.Opens.{OpensOr, StandsOr, EachOpensSome};
 ghost use Rattle.cm_state.specs.State.{State};
 ghost use Rattle.cm_library.specs.Calls.{AnyMoment, WorksOrStays};
 ghost use Rattle.cm_library.specs.Filing.{KeepsRows, SealsIt, AreRight, AreWrong, Seals};
+ghost use Rattle.cm_library.specs.Placing.{KeepsPlaces};
 ghost use Rattle.cm_library.specs.Started.{started_by, without_file, file_fault};
 
 use crate::library::Library;
@@ -73,6 +75,7 @@ impl<D: Disk> Library<D> {
     /// is given up. It takes no memory.
     pub fn seal(&mut self, job: JobId) -> Result<(), LibFault>
         ensures call { WorksOrStays D.reads (without_file job) (λ mid new. Seals D.reads job mid new result) self.old self.new result }
+        ensures places { Told KeepsPlaces (D.reads self.old.disk) (D.reads self.new.disk) }
         // A crash at any moment leaves the state.
         ensures any_moment { ForSome (D.reads self.old.disk) (λ files. (found : State) → look files ≡ Opened found → AnyMoment D.moment D.left_since StandsOr (λ _. None) self.old.disk self.new.disk self.old.state self.old.pending found) }
         // With all files of its versions, where each image opened to some state at the opening.

@@ -96,9 +96,10 @@ pub(crate) fn holder_of(started: &[(JobId, Writing)], job: JobId, hash: Hash) ->
     None
 }
 
-/// A hash is bytes, which is said here alone.
-pub(crate) fn show_bytes(hash: &[u8])
-    ensures { IsBytes hash.now }
+/// A hash is 32 bytes, which is said here alone.
+pub(crate) fn show_bytes(hash: Hash)
+    ensures bytes { IsBytes hash.0 }
+    ensures long { length hash.0 ≡ 32 }
 {
-    let _many = hash.len();
+    let _hash = hash;
 }

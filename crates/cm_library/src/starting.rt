@@ -15,6 +15,7 @@ ghost use Rattle.cm_contents.specs.Seals.{job_manifest, first_fault};
 ghost use Rattle.cm_contents.specs.Wants.{size_in};
 ghost use Rattle.cm_library.specs.Calls.{AnyMoment, WorksOrStays};
 ghost use Rattle.cm_library.specs.Filing.{KeepsRows, SameBut, StartsFile, Starts};
+ghost use Rattle.cm_library.specs.Placing.{KeepsPlaces};
 ghost use Rattle.cm_library.specs.Started.{without_file, no_job, unwanted, start_fault};
 
 use crate::library::Library;
@@ -68,6 +69,7 @@ impl<D: Disk> Library<D> {
         ensures failed { IfErr result (λ fault. fault ≡ LibFault.Disk → self.new.started ≡ without_file job self.old.started) }
         ensures made { OnOk result (Told (λ files now. now ≡ put_at files (file_place hash.0) (emptied (files (file_place hash.0)))) (D.reads self.old.disk) (D.reads self.new.disk)) }
         ensures others { Told (SameBut (file_place hash.0)) (D.reads self.old.disk) (D.reads self.new.disk) }
+        ensures places { Told KeepsPlaces (D.reads self.old.disk) (D.reads self.new.disk) }
         ensures stands { ForSome (D.reads self.old.disk) (λ _. LeavesOnly D.moment D.left_since self.old.disk self.new.disk (StandsOr self.old.state None)) }
         ensures opens { EachOpensSome (D.may_leave self.old.start) → ForSome (D.reads self.old.disk) (λ _. LeavesOnly D.moment D.left_since self.old.disk self.new.disk (OpensOr self.old.state None)) }
         ensures later { D.faults self.old.disk ≤ D.faults self.new.disk }
@@ -77,7 +79,7 @@ impl<D: Disk> Library<D> {
             Ok(size) => size,
             Err(fault) => return Err(fault),
         };
-        show_bytes(&hash.0);
+        show_bytes(hash);
         self.contents.tells_valid();
         leave_file(&mut self.started, job);
         match start(&mut self.disk, hash, size) {
@@ -94,6 +96,7 @@ impl<D: Disk> Library<D> {
     /// first. After `Disk` the job has none. It takes no memory.
     pub fn start_file(&mut self, job: JobId, hash: Hash) -> Result<(), LibFault>
         ensures call { WorksOrStays D.reads (without_file job) (λ mid new. Starts D.reads job hash mid new result) self.old self.new result }
+        ensures places { Told KeepsPlaces (D.reads self.old.disk) (D.reads self.new.disk) }
         // A crash at any moment leaves the state.
         ensures any_moment { ForSome (D.reads self.old.disk) (λ files. (found : State) → look files ≡ Opened found → AnyMoment D.moment D.left_since StandsOr (λ _. None) self.old.disk self.new.disk self.old.state self.old.pending found) }
         // With all files of its versions, where each image opened to some state at the opening.

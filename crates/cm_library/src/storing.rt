@@ -14,6 +14,7 @@ ghost use Rattle.cm_state.specs.State.{held_by_job};
 ghost use Rattle.cm_contents.specs.Seals.{job_manifest};
 ghost use Rattle.cm_contents.specs.Wants.{size_in};
 ghost use Rattle.cm_library.specs.Filing.{KeepsRows, SealsIt};
+ghost use Rattle.cm_library.specs.Placing.{KeepsPlaces};
 ghost use Rattle.cm_library.specs.Started.{holder_of};
 ghost use Rattle.cm_library.specs.Storing.{HaveOneSize, Fills, FillsSoFar, HasPut, HoldsSame, SealsWanted, StoresOrHas};
 
@@ -41,6 +42,7 @@ impl<D: Disk> Library<D> {
         ensures held { OnOk result (HoldsSame job self.old.started self.new.started) }
         ensures stored { OnOk result (Told (Puts (file_place hash.0) bytes.now) (D.reads self.old.disk) (D.reads self.new.disk)) }
         ensures fault { IfErr result (λ fault. fault ≡ LibFault.Disk) }
+        ensures places { Told KeepsPlaces (D.reads self.old.disk) (D.reads self.new.disk) }
         ensures later { D.faults self.old.disk ≤ D.faults self.new.disk }
         ensures cause { IsErrOf result LibFault.Disk → Rose (D.faults self.old.disk) (D.faults self.new.disk) }
     {
@@ -72,6 +74,7 @@ impl<D: Disk> Library<D> {
         ensures held { OnOk result (HoldsSame job self.old.started self.new.started) }
         ensures stored { OnOk result (Told (Puts (file_place hash.0) bytes.now) (D.reads self.old.disk) (D.reads self.new.disk)) }
         ensures fault { IfErr result (λ fault. fault ≡ LibFault.Disk) }
+        ensures places { Told KeepsPlaces (D.reads self.old.disk) (D.reads self.new.disk) }
         ensures later { D.faults self.old.disk ≤ D.faults self.new.disk }
         ensures cause { IsErrOf result LibFault.Disk → Rose (D.faults self.old.disk) (D.faults self.new.disk) }
     {
@@ -93,6 +96,7 @@ impl<D: Disk> Library<D> {
         ensures held { OnOk result (HoldsSame job self.old.started self.new.started) }
         ensures stored { OnOk result (StoresOrHas D.reads (file_of file.now) self.old self.new) }
         ensures fault { IfErr result (λ fault. fault ≡ LibFault.Disk) }
+        ensures places { Told KeepsPlaces (D.reads self.old.disk) (D.reads self.new.disk) }
         ensures later { D.faults self.old.disk ≤ D.faults self.new.disk }
         ensures cause { IsErrOf result LibFault.Disk → Rose (D.faults self.old.disk) (D.faults self.new.disk) }
     {
@@ -119,6 +123,7 @@ impl<D: Disk> Library<D> {
         ensures seals { OnOk result (SealsWanted entries.now (seal_at self.old.seals) (seal_at self.new.seals)) }
         ensures stored { OnOk result (Told (FillsSoFar (seal_at self.old.seals) (seal_at self.new.seals) (files_of files.now)) (D.reads self.old.disk) (D.reads self.new.disk)) }
         ensures fault { IfErr result (λ fault. fault ≡ LibFault.Disk) }
+        ensures places { Told KeepsPlaces (D.reads self.old.disk) (D.reads self.new.disk) }
         ensures later { D.faults self.old.disk ≤ D.faults self.new.disk }
         ensures cause { IsErrOf result LibFault.Disk → Rose (D.faults self.old.disk) (D.faults self.new.disk) }
     {
@@ -152,6 +157,7 @@ impl<D: Disk> Library<D> {
         // Where each hash has one size, among the entries and where it is sealed, only the disk keeps the job from its end.
         ensures reaches { HaveOneSize (seal_at self.old.seals) (manifest_of tree.now) → IfErr result (λ fault. fault ≡ LibFault.Disk) }
         ensures left { IfErr result (λ fault. self.new.state ≡ self.old.state) }
+        ensures places { Told KeepsPlaces (D.reads self.old.disk) (D.reads self.new.disk) }
         ensures later { D.faults self.old.disk ≤ D.faults self.new.disk }
         ensures cause { IsErrOf result LibFault.Disk → Rose (D.faults self.old.disk) (D.faults self.new.disk) }
     {

@@ -4,6 +4,7 @@ ghost use Rattle.std.specs.Option.{ForSome};
 ghost use Rattle.std.specs.Result.{result_err};
 ghost use Rattle.cm_base.specs.Causes.{Rose};
 ghost use Rattle.cm_pkglib.specs.Counts.{seal_at};
+ghost use Rattle.cm_state.specs.Adding.{Told};
 ghost use Rattle.cm_state.specs.Look.{Opened, look};
 ghost use Rattle.cm_state.specs.Opens.{OpensOr, StandsOr, EachOpensSome};
 ghost use Rattle.cm_state.specs.State.{State};
@@ -11,6 +12,7 @@ ghost use Rattle.cm_contents.specs.Seals.{job_manifest};
 ghost use Rattle.cm_contents.specs.Wants.{IsNextWanted};
 ghost use Rattle.cm_library.specs.Calls.{AnyMoment, WorksOrStays};
 ghost use Rattle.cm_library.specs.Filing.{KeepsRows, Wants};
+ghost use Rattle.cm_library.specs.Placing.{KeepsPlaces};
 ghost use Rattle.cm_library.specs.Started.{started_by, without_file, no_job};
 
 use crate::library::Library;
@@ -43,6 +45,7 @@ impl<D: Disk> Library<D> {
         after: Option<Hash>,
     ) -> Result<Option<(Hash, u32)>, LibFault>
         ensures call { WorksOrStays D.reads (λ started. started) (λ mid new. Wants job after mid new result) self.old self.new result }
+        ensures places { Told KeepsPlaces (D.reads self.old.disk) (D.reads self.new.disk) }
         // A crash at any moment leaves the state.
         ensures any_moment { ForSome (D.reads self.old.disk) (λ files. (found : State) → look files ≡ Opened found → AnyMoment D.moment D.left_since StandsOr (λ _. None) self.old.disk self.new.disk self.old.state self.old.pending found) }
         // With all files of its versions, where each image opened to some state at the opening.

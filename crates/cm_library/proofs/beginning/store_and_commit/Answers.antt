@@ -1,4 +1,4 @@
-use Rattle.std.proofs.Common.{◌≡◌, List, sym, ◌∙◌, ap, subst}
+use Rattle.std.proofs.Common.{◌≡◌, List, sym, ◌∙◌, ap, subst, refl}
 use Rattle.std.specs.Prelude.{Option, Some, option_map}
 use Rattle.std.proofs.lemmas.Option.{same_Some}
 use Rattle.cm_disk.proofs.Moments.{joins}
@@ -14,6 +14,9 @@ use Rattle.cm_contents.specs.Contents.{taken_manifest}
 use Rattle.cm_library.specs.Kept.{IsStanding, IsKept}
 use Rattle.cm_library.proofs.ManifestStored.{still_standing, still_sure, storing_leaves_standing, storing_leaves_open}
 use Rattle.cm_library.proofs.Sure.{sure_same}
+use Rattle.cm_library.proofs.KeptPlaces.{joined_places, does_places, manifest_own}
+use Rattle.cm_datalib.specs.Places.{manifest_place}
+use Rattle.cm_datalib.specs.Spellings.{spelled_file}
 use Rattle.cm_library.proofs.beginning.store_and_commit.Goals as goal
 
 pub returns-in-Err-clause-kept : goal.returns-in-Err-clause-kept
@@ -86,3 +89,19 @@ returns-clause-opens g c whole x told =
     let Or = OpensOr m.state (Some (Begun c.args.job c.args.«package» c.args.version (taken_manifest m.taken))) in
     joins d.moment d.left_since c.args.disk.now mid c.commit.new.disk Or Or (storing_leaves_open d.reads d.may_leave c.args.start.now.value c.args.disk.now mid c.args.log.now m c.args.counts.now c.args.pending.now c.args.job c.args.«package» c.args.version (taken_manifest m.taken) c.requires.idle c.requires.standing c.requires.sure c.requires.may d.moment d.left_since c.store.ensures.run whole x told)
     (c.commit.ensures.opens whole _ (c.in-Ok.ensures.work.ok x told)) (λ left or. or)
+
+pub returns-in-Err-clause-places : goal.returns-in-Err-clause-places
+returns-in-Err-clause-places g c =
+    let d = g.D.Disk in
+    let id = c.args.«package» in
+    let own = manifest_own id c.args.version c.requires.may.form c.requires.may.version_range.0 c.requires.may.version_range.1 in
+    does_places (d.reads c.args.disk.now) (d.reads c.store.new.disk) (manifest_place id c.args.version) (spelled_file c.in-Some.manifest.now) c.store.result own (λ file. refl) c.store.ensures.work
+
+pub returns-clause-places : goal.returns-clause-places
+returns-clause-places g c =
+    let d = g.D.Disk in
+    let id = c.args.«package» in
+    let own = manifest_own id c.args.version c.requires.may.form c.requires.may.version_range.0 c.requires.may.version_range.1 in
+    joined_places (d.reads c.args.disk.now) (d.reads c.store.new.disk) (d.reads c.commit.new.disk)
+    (does_places (d.reads c.args.disk.now) (d.reads c.store.new.disk) (manifest_place id c.args.version) (spelled_file c.in-Some.manifest.now) c.store.result own (λ file. refl) c.store.ensures.work)
+    c.commit.ensures.places

@@ -1,8 +1,10 @@
-use Rattle.std.proofs.Common.{◌≡◌, ◌+◌, ◌≤◌, ◌^◌, length, sym, ◌∙◌, ap, subst}
-use Rattle.std.specs.Prelude.{Option, None, Some}
+use Rattle.std.proofs.Common.{◌≡◌, ◌⊎◌, inr, ℕ, ◌+◌, ◌≤◌, ◌^◌, List, length, sym, ◌∙◌, ap, subst}
+use Rattle.std.specs.Prelude.{◌≢◌, Option, None, Some}
+use Rattle.std.proofs.lemmas.Option.{same_Some}
 use Rattle.cm_disk.specs.Disk.{Files, LeavesOnly}
 use Rattle.cm_disk.proofs.Moments.{weaker}
-use Rattle.cm_log.specs.Logs.{closed, shelved}
+use Rattle.cm_log.specs.declared.shelf.Shelf.{Shelf}
+use Rattle.cm_log.specs.Logs.{closed, shelved, added}
 use Rattle.cm_log.specs.Settled.{shelf_of, place_of, end_of, IsBeforeOrAfter, Adds}
 use Rattle.cm_pkglib.specs.declared.change.Change.{Change}
 use Rattle.cm_pkglib.specs.Changes.{spelled}
@@ -18,6 +20,7 @@ use Rattle.cm_state.proofs.Standing.{log_side, live_at}
 use Rattle.cm_contents.specs.Contents.{change_in}
 use Rattle.cm_library.specs.Kept.{IsStanding, IsKept}
 use Rattle.cm_library.proofs.Keeps.{file_apart, kept_done, kept_failed}
+use Rattle.cm_library.proofs.KeptPlaces.{logged_places}
 use Rattle.cm_library.proofs.Sure.{brings_of, sure_apart, sure_then}
 use Rattle.cm_library.proofs.commits.commit.Goals as goal
 
@@ -178,3 +181,28 @@ returns-in-Err-clause-store g c x told =
     let side = log_side x (place_of log) (closed (standing.stands x told).settled.ends.entries (end_of log)) (live_at x log standing.shelf (standing.stands x told).settled.ends) in
     let k = c.add_record.ensures.alone.kept x told in
     (k.0, k.1, λ hash. k.2 (file_place hash) (λ e. file_no_log hash side.0 (e ∙ side.1)))
+
+pub returns-in-Ok-clause-places : goal.returns-in-Ok-clause-places
+returns-in-Ok-clause-places g c x told =
+    let d = g.D.Disk in
+    let disk = c.args.disk.now in
+    let log = c.args.log.now in
+    let standing = subst (λ (p : Option Change). IsStanding d.reads d.may_leave disk log c.args.contents.now p) c.requires.idle c.requires.standing in
+    let ends = (standing.stands x told).settled.ends in
+    let a = c.in-Ok.ensures.adds x told in
+    (a.0, a.1, logged_places x a.0 log (spelled c.args.change.now) standing.shelf ends a.2.others (inr a.2.log))
+
+pub returns-in-Err-clause-places : goal.returns-in-Err-clause-places
+returns-in-Err-clause-places g c x told =
+    let d = g.D.Disk in
+    let disk = c.args.disk.now in
+    let log = c.args.log.now in
+    let standing = subst (λ (p : Option Change). IsStanding d.reads d.may_leave disk log c.args.contents.now p) c.requires.idle c.requires.standing in
+    let ends = (standing.stands x told).settled.ends in
+    let u = c.in-Err.ensures.unsettled x told in
+    let k = c.add_record.ensures.alone.kept x told in
+    let others = subst (λ (now : Files). (q : List ℕ) → q ≢ place_of log → now q ≡ x q) (same_Some k.0 u.0 (sym k.1 ∙ u.1)) k.2 in
+    let body = spelled c.args.change.now in
+    let was = shelved (shelf_of log) x in
+    let either = subst (λ (s : Shelf). (shelved s u.0 ≡ was) ⊎ (shelved s u.0 ≡ added body was)) c.add_record.ensures.shelf u.2.reads in
+    (u.0, u.1, logged_places x u.0 log body standing.shelf ends others either)

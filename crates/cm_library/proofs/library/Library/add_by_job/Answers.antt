@@ -6,6 +6,7 @@ use Rattle.cm_state.specs.Changes.{Begun, changed}
 use Rattle.cm_state.specs.State.{Held, State, held_by_job}
 use Rattle.cm_contents.specs.Seals.{manifest_or_none, job_manifest}
 use Rattle.cm_library.proofs.FilledJob.{begun_held, none_held, adds_tree}
+use Rattle.cm_library.proofs.KeptPlaces.{joined_places}
 use Rattle.cm_library.proofs.library.Library.add_by_job.Goals as goal
 
 pub fill_job-requires-clause-unfinished : goal.fill_job-requires-clause-unfinished
@@ -40,3 +41,18 @@ returns-in-Ok-fill_job-clause-files g c only x told =
     let m = c.begin_settled.ensures.store x told in
     let n = c.in-Ok-fill_job.ensures.files m.0 m.1 in
     (n.0, n.1, adds_tree s c.begin_settled.new.self.state job c.args.«package» c.args.version c.in-Ok-copy.copy is (seal_at c.args.self.now.seals) (seal_at c.begin_settled.new.self.seals) c.show_versions_sealed.ensures.sealed begun.ends.ok.3 only c.args.tree.now x m.0 n.0 m.2 n.2)
+
+pub returns-in-Ok-fill_job-clause-places : goal.returns-in-Ok-fill_job-clause-places
+returns-in-Ok-fill_job-clause-places g c =
+    let d = g.D.Disk in
+    joined_places (d.reads c.args.self.now.disk) (d.reads c.begin_settled.new.self.disk) (d.reads c.fill_job.new.self.disk) c.begin_settled.ensures.places c.fill_job.ensures.places
+
+pub returns-in-Err-Disk-clause-places : goal.returns-in-Err-Disk-clause-places
+returns-in-Err-Disk-clause-places g c =
+    let d = g.D.Disk in
+    joined_places (d.reads c.args.self.now.disk) (d.reads c.begin_settled.new.self.disk) (d.reads c.fill_job.new.self.disk) c.begin_settled.ensures.places c.fill_job.ensures.places
+
+pub returns-clause-places : goal.returns-clause-places
+returns-clause-places g c =
+    let d = g.D.Disk in
+    joined_places (d.reads c.args.self.now.disk) (d.reads c.begin_settled.new.self.disk) (d.reads c.fill_job.new.self.disk) c.begin_settled.ensures.places c.fill_job.ensures.places

@@ -11,6 +11,7 @@ use Rattle.cm_library.specs.Calls.{AnyMoment}
 use Rattle.cm_library.specs.Started.{left_by}
 use Rattle.cm_library.specs.Kept.{Seen}
 use Rattle.cm_library.proofs.AnyMoment.{not_ok, one_found, not_settled, then_done}
+use Rattle.cm_library.proofs.KeptPlaces.{joined_places, same_places}
 use Rattle.cm_library.proofs.library.Library.end_by.Goals as goal
 
 pub returns-in-Err-clause-any_moment : goal.returns-in-Err-clause-any_moment
@@ -80,3 +81,16 @@ returns-clause-call g c =
       c.end_settled.ensures.refused,
       c.end_settled.ensures.ends,
     )
+
+pub returns-in-Err-clause-places : goal.returns-in-Err-clause-places
+returns-in-Err-clause-places g c =
+    let d = g.D.Disk in
+    same_places (d.reads c.args.self.now.disk) (d.reads c.leave_by.new.self.disk) (ap (λ (s : g.row.D.Denot). d.reads s) c.leave_by.ensures.disk ∙ c.settle.ensures.only.same)
+
+pub returns-clause-places : goal.returns-clause-places
+returns-clause-places g c =
+    let d = g.D.Disk in
+    let was = c.args.self.now in
+    let mid = c.settle.new.self in
+    joined_places (d.reads was.disk) (d.reads mid.disk) (d.reads c.end_settled.new.self.disk) (same_places (d.reads was.disk) (d.reads mid.disk) c.settle.ensures.only.same)
+    c.end_settled.ensures.places

@@ -1,4 +1,4 @@
-use Rattle.std.proofs.Common.{◌≡◌, ℕ, ◌<◌, ◌≤◌, true, List, [], ◌∷◌, ◌++◌, length, sym, ◌∙◌, ap, subst}
+use Rattle.std.proofs.Common.{◌≡◌, ℕ, ◌<◌, ◌≤◌, true, List, [], ◌∷◌, ◌++◌, length, sym, ◌∙◌, ap, subst, refl}
 use Rattle.std.specs.Prelude.{None, Some, is_some, vec_capacity}
 use Rattle.std.proofs.lemmas.List.{length-map}
 use Rattle.std.proofs.lemmas.Option.{same_Some}
@@ -15,6 +15,9 @@ use Rattle.cm_library.proofs.FileCalls.{told_but, files_left, files_with}
 use Rattle.cm_library.proofs.Refused.{refused_stands, refused_opens}
 use Rattle.cm_library.proofs.SettledCalls.{first_none, may_go_on, files_idle, worked, work_stands, work_opens, room_for, still_enough}
 use Rattle.cm_library.proofs.StartedFiles.{file_found, fewer_than_jobs}
+use Rattle.cm_library.proofs.KeptPlaces.{does_places, file_own}
+use Rattle.cm_state.specs.Adding.{Told}
+use Rattle.cm_library.specs.Placing.{KeepsPlaces}
 use Rattle.cm_library.proofs.library.Library.put_settled.Goals as goal
 
 pub returns-in-Some-clause-stands : goal.returns-in-Some-clause-stands
@@ -89,7 +92,7 @@ invariant_of-self g c =
     worked d.reads d.may_leave d.moment d.left_since g.met.D.Disk.as_it_reads s.start.value s.disk s.log s.contents s.counts s.pending s.started.items (vec_capacity s.started) was c.self.view_is c.requires.settled c.self.invariant new (hash_of w) c.put.ensures.others work.silent at.0.bytes at.0.unsealed c.add_file.new.started.items (vec_capacity c.add_file.new.started)
     (still_enough (vec_capacity s.started) (vec_capacity c.take_file.new.started) (vec_capacity c.add_file.new.started) c.self.invariant.enough c.take_file.ensures.capacity c.add_file.ensures.capacity)
     (subst (λ (xs : List (ℕ × Writing)). AreStarted (d.reads new) s.contents.state (λ h. sealed_of s.counts h) None xs) (sym (c.add_file.ensures.more ∙ ap (λ (xs : List (ℕ × Writing)). xs ++ (job, writing) ∷ []) c.take_file.ensures.rest))
-    (files_with (d.reads s.disk) (d.reads new) s.contents.state (λ h. sealed_of s.counts h) job (hash_of w) s.started.items files at.0.bytes but work.silent writing at.2 (at.0.wanted ∙ ap (λ (n : ℕ). Some n) (sym done.named.1)) at.0.unsealed done.named.0 done.idle done.stands))
+    (files_with (d.reads s.disk) (d.reads new) s.contents.state (λ h. sealed_of s.counts h) job (hash_of w) s.started.items files at.0.bytes at.0.long but work.silent writing at.2 (at.0.wanted ∙ ap (λ (n : ℕ). Some n) (sym done.named.1)) at.0.unsealed done.named.0 done.idle done.stands))
 
 pub invariant_of-self-in-Err-Disk : goal.invariant_of-self-in-Err-Disk
 invariant_of-self-in-Err-Disk g c =
@@ -106,7 +109,7 @@ invariant_of-self-in-Err-Disk g c =
     worked d.reads d.may_leave d.moment d.left_since g.met.D.Disk.as_it_reads s.start.value s.disk s.log s.contents s.counts s.pending s.started.items (vec_capacity s.started) was c.self.view_is c.requires.settled c.self.invariant new (hash_of w) c.put.ensures.others work.silent at.0.bytes at.0.unsealed c.take_file.new.started.items (vec_capacity c.take_file.new.started)
     (subst (λ (n : ℕ). 256 ≤ n) (sym c.take_file.ensures.capacity) c.self.invariant.enough)
     (subst (λ (xs : List (ℕ × Writing)). AreStarted (d.reads new) s.contents.state (λ h. sealed_of s.counts h) None xs) (sym c.take_file.ensures.rest)
-    (files_left (d.reads s.disk) (d.reads new) s.contents.state (λ h. sealed_of s.counts h) job (hash_of w) s.started.items files at.0.bytes but work.silent at.2))
+    (files_left (d.reads s.disk) (d.reads new) s.contents.state (λ h. sealed_of s.counts h) job (hash_of w) s.started.items files at.0.bytes at.0.long but work.silent at.2))
 
 pub returns-in-Ok-clause-goes_on : goal.returns-in-Ok-clause-goes_on
 returns-in-Ok-clause-goes_on g c x is =
@@ -164,3 +167,27 @@ returns-in-Err-Disk-clause-opens g c =
     let files = files_idle d.reads d.may_leave d.moment d.left_since g.met.D.Disk.as_it_reads s.start.value s.disk s.log s.contents s.counts s.pending s.started.items (vec_capacity s.started) was c.self.view_is c.requires.settled c.self.invariant in
     let at = file_found (d.reads s.disk) s.contents.state (λ h. sealed_of s.counts h) None job s.started.items w (sym c.in-Some-take_file.ensures.found) files in
     work_opens d.reads d.may_leave d.moment d.left_since g.met.D.Disk.as_it_reads s.start.value s.disk s.log s.contents s.counts s.pending s.started.items (vec_capacity s.started) was c.self.view_is c.requires.settled c.self.invariant c.put.new.disk (hash_of w) c.put.ensures.run at.0.bytes at.0.unsealed
+
+pub returns-in-Ok-clause-places : goal.returns-in-Ok-clause-places
+returns-in-Ok-clause-places g c =
+    let d = g.D.Disk in
+    let s = c.self.inside in
+    let was = c.args.self.now in
+    let job = c.args.job in
+    let w = c.in-Some-take_file.writing in
+    let files = files_idle d.reads d.may_leave d.moment d.left_since g.met.D.Disk.as_it_reads s.start.value s.disk s.log s.contents s.counts s.pending s.started.items (vec_capacity s.started) was c.self.view_is c.requires.settled c.self.invariant in
+    let at = file_found (d.reads s.disk) s.contents.state (λ h. sealed_of s.counts h) None job s.started.items w (sym c.in-Some-take_file.ensures.found) files in
+    subst (λ (v : Seen g.row.D.Denot). Told KeepsPlaces (d.reads v.disk) (d.reads c.put.new.disk)) c.self.view_is
+    (does_places (d.reads s.disk) (d.reads c.put.new.disk) (place_of w) (appended c.args.bytes.now) c.put.result (file_own (hash_of w).0 at.0.bytes at.0.long) (λ file. refl) c.put.ensures.work)
+
+pub returns-in-Err-Disk-clause-places : goal.returns-in-Err-Disk-clause-places
+returns-in-Err-Disk-clause-places g c =
+    let d = g.D.Disk in
+    let s = c.self.inside in
+    let was = c.args.self.now in
+    let job = c.args.job in
+    let w = c.in-Some-take_file.writing in
+    let files = files_idle d.reads d.may_leave d.moment d.left_since g.met.D.Disk.as_it_reads s.start.value s.disk s.log s.contents s.counts s.pending s.started.items (vec_capacity s.started) was c.self.view_is c.requires.settled c.self.invariant in
+    let at = file_found (d.reads s.disk) s.contents.state (λ h. sealed_of s.counts h) None job s.started.items w (sym c.in-Some-take_file.ensures.found) files in
+    subst (λ (v : Seen g.row.D.Denot). Told KeepsPlaces (d.reads v.disk) (d.reads c.put.new.disk)) c.self.view_is
+    (does_places (d.reads s.disk) (d.reads c.put.new.disk) (place_of w) (appended c.args.bytes.now) c.put.result (file_own (hash_of w).0 at.0.bytes at.0.long) (λ file. refl) c.put.ensures.work)

@@ -101,7 +101,7 @@ invariant_of-self g c =
     let fewer = subst (λ (r : Option Files). AreStarted r s.contents.state (λ h. sealed_of s.counts h) None (without_own job hash s.started.items)) (sym same)
     (files_fewer (d.reads s.disk) s.contents.state (λ h. sealed_of s.counts h) (λ (file : ℕ × Writing). not (file.0 == job && bytes_eq (hash_of file.1).0 hash.0)) s.started.items files) in
     let counts = c.seal.new.counts in
-    sealed_now d.reads d.may_leave d.moment d.left_since g.met.D.Disk.as_it_reads s.start.value s.disk s.log s.contents s.counts s.pending s.started.items (vec_capacity s.started) was c.self.view_is c.requires.settled c.self.invariant new hash others silent c.show_bytes.ensures unsealed counts (record { size = c.in-Ok.size; since = true }) c.leave_own.new.started.items (vec_capacity c.leave_own.new.started)
+    sealed_now d.reads d.may_leave d.moment d.left_since g.met.D.Disk.as_it_reads s.start.value s.disk s.log s.contents s.counts s.pending s.started.items (vec_capacity s.started) was c.self.view_is c.requires.settled c.self.invariant new hash others silent c.show_bytes.ensures.bytes unsealed counts (record { size = c.in-Ok.size; since = true }) c.leave_own.new.started.items (vec_capacity c.leave_own.new.started)
     (subst (λ (n : ℕ). 256 ≤ n) (sym c.leave_own.ensures.capacity) c.self.invariant.enough)
     (c.in-Ok-true.ensures.sure c.in-Ok-true.field-0-test) c.seal.ensures.counted c.seal.ensures.seals
     (subst (λ (xs : List (ℕ × Writing)). AreStarted (d.reads new) s.contents.state (λ h. sealed_of counts h) None xs) (sym c.leave_own.ensures.rest)
@@ -124,7 +124,7 @@ invariant_of-self-in-Ok-false g c =
     let others = λ (q : List ℕ) (left : File) (ne : q ≢ file_place hash.0) (l : d.may_leave new q left). c.salvage.ensures.stop q left l in
     let fewer = subst (λ (r : Option Files). AreStarted r s.contents.state (λ h. sealed_of s.counts h) None (without_own job hash s.started.items)) (sym same)
     (files_fewer (d.reads s.disk) s.contents.state (λ h. sealed_of s.counts h) (λ (file : ℕ × Writing). not (file.0 == job && bytes_eq (hash_of file.1).0 hash.0)) s.started.items files) in
-    worked d.reads d.may_leave d.moment d.left_since g.met.D.Disk.as_it_reads s.start.value s.disk s.log s.contents s.counts s.pending s.started.items (vec_capacity s.started) was c.self.view_is c.requires.settled c.self.invariant new hash others silent c.show_bytes.ensures unsealed c.leave_own.new.started.items (vec_capacity c.leave_own.new.started)
+    worked d.reads d.may_leave d.moment d.left_since g.met.D.Disk.as_it_reads s.start.value s.disk s.log s.contents s.counts s.pending s.started.items (vec_capacity s.started) was c.self.view_is c.requires.settled c.self.invariant new hash others silent c.show_bytes.ensures.bytes unsealed c.leave_own.new.started.items (vec_capacity c.leave_own.new.started)
     (subst (λ (n : ℕ). 256 ≤ n) (sym c.leave_own.ensures.capacity) c.self.invariant.enough)
     (subst (λ (xs : List (ℕ × Writing)). AreStarted (d.reads new) s.contents.state (λ h. sealed_of s.counts h) None xs) (sym c.leave_own.ensures.rest) fewer)
 
@@ -145,7 +145,7 @@ invariant_of-self-in-Err-salvage g c =
     let others = λ (q : List ℕ) (left : File) (ne : q ≢ file_place hash.0) (l : d.may_leave new q left). c.salvage.ensures.stop q left l in
     let fewer = subst (λ (r : Option Files). AreStarted r s.contents.state (λ h. sealed_of s.counts h) None (without_own job hash s.started.items)) (sym same)
     (files_fewer (d.reads s.disk) s.contents.state (λ h. sealed_of s.counts h) (λ (file : ℕ × Writing). not (file.0 == job && bytes_eq (hash_of file.1).0 hash.0)) s.started.items files) in
-    worked d.reads d.may_leave d.moment d.left_since g.met.D.Disk.as_it_reads s.start.value s.disk s.log s.contents s.counts s.pending s.started.items (vec_capacity s.started) was c.self.view_is c.requires.settled c.self.invariant new hash others silent c.show_bytes.ensures unsealed c.leave_own.new.started.items (vec_capacity c.leave_own.new.started)
+    worked d.reads d.may_leave d.moment d.left_since g.met.D.Disk.as_it_reads s.start.value s.disk s.log s.contents s.counts s.pending s.started.items (vec_capacity s.started) was c.self.view_is c.requires.settled c.self.invariant new hash others silent c.show_bytes.ensures.bytes unsealed c.leave_own.new.started.items (vec_capacity c.leave_own.new.started)
     (subst (λ (n : ℕ). 256 ≤ n) (sym c.leave_own.ensures.capacity) c.self.invariant.enough)
     (subst (λ (xs : List (ℕ × Writing)). AreStarted (d.reads new) s.contents.state (λ h. sealed_of s.counts h) None xs) (sym c.leave_own.ensures.rest) fewer)
 
@@ -206,7 +206,7 @@ returns-in-Ok-true-clause-opens g c =
     let free : holder_of job hash s.started.items ≡ None = ap (λ (v : Seen g.row.D.Denot). holder_of job hash v.started) c.self.view_is ∙ may_salvage was.state was.started job hash c.in-Ok.ensures.wanted.0 in
     let wanted : size_in hash (job_manifest job s.contents.state) ≡ Some c.in-Ok.size = ap (λ (v : Seen g.row.D.Denot). size_in hash (job_manifest job v.state)) c.self.view_is ∙ c.in-Ok.ensures.wanted.1 in
     let unsealed : sealed_of s.counts hash ≡ None = sym c.sealed.ensures ∙ none_there c.sealed.result (sym c.if-is_some.ensures) in
-    work_opens d.reads d.may_leave d.moment d.left_since g.met.D.Disk.as_it_reads s.start.value s.disk s.log s.contents s.counts s.pending s.started.items (vec_capacity s.started) was c.self.view_is c.requires.settled c.self.invariant c.salvage.new.disk hash (run_alone d.moment d.left_since s.disk c.salvage.new.disk (d.may_leave s.disk) (file_place hash.0) c.salvage.ensures.run) c.show_bytes.ensures unsealed
+    work_opens d.reads d.may_leave d.moment d.left_since g.met.D.Disk.as_it_reads s.start.value s.disk s.log s.contents s.counts s.pending s.started.items (vec_capacity s.started) was c.self.view_is c.requires.settled c.self.invariant c.salvage.new.disk hash (run_alone d.moment d.left_since s.disk c.salvage.new.disk (d.may_leave s.disk) (file_place hash.0) c.salvage.ensures.run) c.show_bytes.ensures.bytes unsealed
 
 pub returns-in-Ok-false-clause-stands : goal.returns-in-Ok-false-clause-stands
 returns-in-Ok-false-clause-stands g c =
@@ -227,7 +227,7 @@ returns-in-Ok-false-clause-opens g c =
     let free : holder_of job hash s.started.items ≡ None = ap (λ (v : Seen g.row.D.Denot). holder_of job hash v.started) c.self.view_is ∙ may_salvage was.state was.started job hash c.in-Ok.ensures.wanted.0 in
     let wanted : size_in hash (job_manifest job s.contents.state) ≡ Some c.in-Ok.size = ap (λ (v : Seen g.row.D.Denot). size_in hash (job_manifest job v.state)) c.self.view_is ∙ c.in-Ok.ensures.wanted.1 in
     let unsealed : sealed_of s.counts hash ≡ None = sym c.sealed.ensures ∙ none_there c.sealed.result (sym c.if-is_some.ensures) in
-    work_opens d.reads d.may_leave d.moment d.left_since g.met.D.Disk.as_it_reads s.start.value s.disk s.log s.contents s.counts s.pending s.started.items (vec_capacity s.started) was c.self.view_is c.requires.settled c.self.invariant c.salvage.new.disk hash (run_alone d.moment d.left_since s.disk c.salvage.new.disk (d.may_leave s.disk) (file_place hash.0) c.salvage.ensures.run) c.show_bytes.ensures unsealed
+    work_opens d.reads d.may_leave d.moment d.left_since g.met.D.Disk.as_it_reads s.start.value s.disk s.log s.contents s.counts s.pending s.started.items (vec_capacity s.started) was c.self.view_is c.requires.settled c.self.invariant c.salvage.new.disk hash (run_alone d.moment d.left_since s.disk c.salvage.new.disk (d.may_leave s.disk) (file_place hash.0) c.salvage.ensures.run) c.show_bytes.ensures.bytes unsealed
 
 pub returns-in-Err-salvage-clause-stands : goal.returns-in-Err-salvage-clause-stands
 returns-in-Err-salvage-clause-stands g c =
@@ -248,4 +248,4 @@ returns-in-Err-salvage-clause-opens g c =
     let free : holder_of job hash s.started.items ≡ None = ap (λ (v : Seen g.row.D.Denot). holder_of job hash v.started) c.self.view_is ∙ may_salvage was.state was.started job hash c.in-Ok.ensures.wanted.0 in
     let wanted : size_in hash (job_manifest job s.contents.state) ≡ Some c.in-Ok.size = ap (λ (v : Seen g.row.D.Denot). size_in hash (job_manifest job v.state)) c.self.view_is ∙ c.in-Ok.ensures.wanted.1 in
     let unsealed : sealed_of s.counts hash ≡ None = sym c.sealed.ensures ∙ none_there c.sealed.result (sym c.if-is_some.ensures) in
-    work_opens d.reads d.may_leave d.moment d.left_since g.met.D.Disk.as_it_reads s.start.value s.disk s.log s.contents s.counts s.pending s.started.items (vec_capacity s.started) was c.self.view_is c.requires.settled c.self.invariant c.salvage.new.disk hash (run_alone d.moment d.left_since s.disk c.salvage.new.disk (d.may_leave s.disk) (file_place hash.0) c.salvage.ensures.run) c.show_bytes.ensures unsealed
+    work_opens d.reads d.may_leave d.moment d.left_since g.met.D.Disk.as_it_reads s.start.value s.disk s.log s.contents s.counts s.pending s.started.items (vec_capacity s.started) was c.self.view_is c.requires.settled c.self.invariant c.salvage.new.disk hash (run_alone d.moment d.left_since s.disk c.salvage.new.disk (d.may_leave s.disk) (file_place hash.0) c.salvage.ensures.run) c.show_bytes.ensures.bytes unsealed

@@ -9,6 +9,7 @@ use Rattle.cm_library.specs.Calls.{AnyMoment}
 use Rattle.cm_library.specs.Started.{without_file}
 use Rattle.cm_library.specs.Kept.{Seen}
 use Rattle.cm_library.proofs.AnyMoment.{not_ok, one_found, not_settled, then_done, no_change}
+use Rattle.cm_library.proofs.KeptPlaces.{joined_places, same_places}
 use Rattle.cm_library.proofs.library.Library.seal.Goals as goal
 
 pub returns-in-Err-clause-any_moment : goal.returns-in-Err-clause-any_moment
@@ -84,3 +85,16 @@ returns-clause-call g c =
         same = e.same;
       },
     )
+
+pub returns-in-Err-clause-places : goal.returns-in-Err-clause-places
+returns-in-Err-clause-places g c =
+    let d = g.D.Disk in
+    same_places (d.reads c.args.self.now.disk) (d.reads c.leave_started.new.self.disk) (ap (λ (s : g.row.D.Denot). d.reads s) c.leave_started.ensures.disk ∙ c.settle.ensures.only.same)
+
+pub returns-clause-places : goal.returns-clause-places
+returns-clause-places g c =
+    let d = g.D.Disk in
+    let was = c.args.self.now in
+    let mid = c.settle.new.self in
+    joined_places (d.reads was.disk) (d.reads mid.disk) (d.reads c.seal_settled.new.self.disk) (same_places (d.reads was.disk) (d.reads mid.disk) c.settle.ensures.only.same)
+    (same_places (d.reads mid.disk) (d.reads c.seal_settled.new.self.disk) c.seal_settled.ensures.same)

@@ -5,6 +5,7 @@ use Rattle.cm_state.specs.State.{State}
 use Rattle.cm_contents.specs.Seals.{job_manifest}
 use Rattle.cm_contents.specs.Wants.{size_in}
 use Rattle.cm_library.proofs.StoredTree.{pair_at, first_size, stored_more}
+use Rattle.cm_library.proofs.KeptPlaces.{joined_places}
 use Rattle.cm_library.proofs.library.Library.store_files.Goals as goal
 
 pub store_one-requires-clause-hash : goal.store_one-requires-clause-hash
@@ -30,5 +31,6 @@ loop-at-preserved g c =
     record {
       so_far = stored_more g.D.Disk.reads c.args.job c.args.files.now c.args.entries.now c.args.self.now c.loop-at.self c.store_one.new.self c.loop-at.at c.index-files-at.result c.index-entries-at.result c.loop-at-test.true c.index-entries-at.is p
           c.loop-at.invariant.so_far c.store_one.ensures.rows c.in-Ok.ensures.held c.in-Ok.ensures.stored;
+      places = joined_places (g.D.Disk.reads c.args.self.now.disk) (g.D.Disk.reads c.loop-at.self.disk) (g.D.Disk.reads c.store_one.new.self.disk) c.loop-at.invariant.places c.store_one.ensures.places;
       later = omega (arith, before, after);
     }

@@ -1,0 +1,105 @@
+-- The places that a call leaves alone, and those that are there.
+use Rattle.std.proofs.Common.{◌≡◌, ◌⊎◌, inl, inr, ℕ, ◌+◌, ◌<◌, ◌≤◌, ◌^◌, Bool, true, false, List, [], ◌∷◌, ◌++◌, length, refl, sym, ◌∙◌, ap, subst}
+use Rattle.std.specs.Prelude.{◌≢◌, Option, is_some, Result, Ok, Err, if◌then◌else◌}
+use Rattle.std.specs.Str.{bytes_eq}
+use Rattle.std.proofs.lemmas.Bool.{false≢true}
+use Rattle.std.proofs.lemmas.Slice.Eq.{bytes_eq-Decides}
+use Rattle.hex.specs.Hex.{IsBytes}
+use Rattle.cm_base.specs.Names.{is_package_id}
+use Rattle.cm_disk.specs.Disk.{File, Files, Does, IsPartly, put}
+use Rattle.cm_disk.proofs.Puts.{put_there}
+use Rattle.cm_log.specs.declared.shelf.Shelf.{Shelf}
+use Rattle.cm_log.specs.declared.shelf.Shelf.TheVariants.{PkgLib}
+use Rattle.cm_log.specs.declared.shelf.Side.{Side}
+use Rattle.cm_log.specs.declared.state.Log.{Log}
+use Rattle.cm_log.specs.Logs.{Entry, Shelved, Live, closed, shelved, added}
+use Rattle.cm_log.specs.Settled.{shelf_of, place_of, end_of, EndsIn}
+use Rattle.cm_log.proofs.Shelveds.{ended_by}
+use Rattle.cm_log.specs.Shelves.{log_place}
+use Rattle.cm_datalib.specs.Places.{manifest_place}
+use Rattle.cm_datalib.proofs.Names.{is_version_by}
+use Rattle.cm_filelib.specs.Places.{file_place}
+use Rattle.cm_state.specs.Adding.{Told}
+use Rattle.cm_state.proofs.Standing.{log_side, live_at}
+use Rattle.cm_library.specs.Placing.{IsLibraryPlace, KeepsPlaces}
+
+-- nothing has changed
+pub places_as_before : (files : Files) → KeepsPlaces files files
+places_as_before files = record { others = λ q other. refl; kept = λ q there. there }
+
+pub same_places : (old new : Option Files) → new ≡ old → Told KeepsPlaces old new
+same_places old new same = λ files told. (files, same ∙ told, places_as_before files)
+
+-- one call after another
+pub joined_places : (old mid new : Option Files) → Told KeepsPlaces old mid → Told KeepsPlaces mid new → Told KeepsPlaces old new
+joined_places old mid new first second = λ files told.
+    let a = first files told in
+    let b = second a.0 a.1 in (
+      b.0,
+      b.1,
+      record {
+        others = λ q other. b.2.others q other ∙ a.2.others q other;
+        kept = λ q there. b.2.kept q (a.2.kept q there);
+      },
+    )
+
+-- a file at a place of a library, which is there if it was
+pub put_places : (files : Files) (place : List ℕ) (file : File) → IsLibraryPlace place → (is_some (files place) ≡ true → is_some file ≡ true) → KeepsPlaces files (put files place file)
+put_places files place file own there = record {
+  others = λ q other. put_there files place file q (λ same. other (subst IsLibraryPlace (sym same) own));
+  kept = λ q was. at q was (bytes_eq place q) refl;
+}
+  where
+    at : (q : List ℕ) → is_some (files q) ≡ true → (b : Bool) → bytes_eq place q ≡ b → is_some (if b then file else files q) ≡ true
+    at q was true same = there (ap (λ (p : List ℕ). is_some (files p)) ((bytes_eq-Decides place q).0 same) ∙ was)
+    at q was false other = was
+
+-- work that makes the file, or any part of it
+partly_there : (before after now : File) → IsPartly before after now → is_some after ≡ true → is_some before ≡ true → is_some now ≡ true
+partly_there before after now partly made was = elim partly.there [ inl same ↦ same ∙ was | inr same ↦ same ∙ made ]
+
+pub does_places : {T E : Type 0} (old new : Option Files) (place : List ℕ) (work : File → File) (result : Result T E) → IsLibraryPlace place → ((file : File) → is_some (work file) ≡ true) → Does old new place work result → Told KeepsPlaces old new
+does_places old new place work (Ok x) own makes does = λ files told.
+    (put files place (work (files place)), does.ok files told, put_places files place (work (files place)) own (λ was. makes (files place)))
+does_places old new place work (Err e) own makes does = λ files told.
+    let partly = does.err files told in
+    (put files place partly.0, partly.1, put_places files place partly.0 own (partly_there (files place) (work (files place)) partly.0 partly.2 (makes (files place))))
+
+-- the place of a manifest, and that of a file
+pub manifest_own : (id : List ℕ) (version : ℕ) → is_package_id id ≡ true → 1 ≤ version → version < 2 ^ 32 → IsLibraryPlace (manifest_place id version)
+manifest_own id version form some small = inr (inl (id, version, is_version_by id version form some small, refl))
+
+pub file_own : (hash : List ℕ) → IsBytes hash → length hash ≡ 32 → IsLibraryPlace (file_place hash)
+file_own hash bytes long = inr (inr (hash, bytes, long, refl))
+
+-- the file of a live log is there
+live_there : (files : Files) (place : List ℕ) (entries : List Entry) (end : ℕ) → shelved PkgLib files ≡ Live place (closed entries end) → is_some (files place) ≡ true
+live_there files place entries end live = ap (λ (file : File). is_some file) (ended_by PkgLib files place entries end live).shut.spells
+
+-- with a record more too
+added_there : (files now : Files) (place : List ℕ) (entries : List Entry) (end : ℕ) (body : List ℕ) → shelved PkgLib files ≡ Live place (closed entries end)
+    → (shelved PkgLib now ≡ shelved PkgLib files) ⊎ (shelved PkgLib now ≡ added body (shelved PkgLib files)) → is_some (now place) ≡ true
+added_there files now place entries end body live (inl same) = live_there now place entries end (same ∙ live)
+added_there files now place entries end body live (inr more) =
+    live_there now place (entries ++ record { gate = end; body = body } ∷ []) (end + 5 + length body) (more ∙ ap (λ (s : Shelved). added body s) live)
+
+-- a log was written, and has the record more or not
+pub logged_places : (files now : Files) (log : Log) (body : List ℕ) → shelf_of log ≡ PkgLib → EndsIn files log → ((q : List ℕ) → q ≢ place_of log → now q ≡ files q)
+    → (shelved (shelf_of log) now ≡ shelved (shelf_of log) files) ⊎ (shelved (shelf_of log) now ≡ added body (shelved (shelf_of log) files)) → KeepsPlaces files now
+logged_places files now log body shelf ends others either = record {
+  others = λ q other. others q (λ same. other (inl (inr (side.0, same ∙ side.1))));
+  kept = λ q was. at q was (bytes_eq q (place_of log)) refl;
+}
+  where
+    live : shelved PkgLib files ≡ Live (place_of log) (closed ends.entries (end_of log))
+    live = live_at files log shelf ends
+
+    side : (side : Side) × (place_of log ≡ log_place PkgLib side)
+    side = log_side files (place_of log) (closed ends.entries (end_of log)) live
+
+    there : is_some (now (place_of log)) ≡ true
+    there = added_there files now (place_of log) ends.entries (end_of log) body live (subst (λ (s : Shelf). (shelved s now ≡ shelved s files) ⊎ (shelved s now ≡ added body (shelved s files))) shelf either)
+
+    at : (q : List ℕ) → is_some (files q) ≡ true → (b : Bool) → bytes_eq q (place_of log) ≡ b → is_some (now q) ≡ true
+    at q was true same = ap (λ (p : List ℕ). is_some (now p)) ((bytes_eq-Decides q (place_of log)).0 same) ∙ there
+    at q was false other = ap (λ (file : File). is_some file) (others q (λ same. false≢true (sym other ∙ (bytes_eq-Decides q (place_of log)).1 same))) ∙ was
