@@ -10,6 +10,7 @@ pub mod Images
 pub mod Keeping
 pub mod Made
 pub mod Pieces
+pub mod Present
 pub mod Readings
 pub mod Rest
 pub mod Shelveds

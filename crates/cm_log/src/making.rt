@@ -3,7 +3,7 @@ ghost use Rattle.std.specs.Prelude.{◌≡◌, ◌≢◌, List, ℕ, None, Some,
 ghost use Rattle.std.specs.Option.{ForSome};
 ghost use Rattle.cm_base.specs.Causes.{Rose, HasCause};
 ghost use Rattle.cm_disk.specs.Disk.{Files, Only, LeavesOnly};
-ghost use Rattle.cm_log.specs.Frames.{OnlyReads, LeavesAlone};
+ghost use Rattle.cm_log.specs.Frames.{OnlyReads, LeavesAlone, NoneGone};
 ghost use Rattle.cm_log.specs.Shelves.{ready_place, IsElsewhere, IsNoLog};
 ghost use Rattle.cm_log.specs.Settled.{Rests, Makes, HasLogs, IsMaking};
 
@@ -25,6 +25,7 @@ pub fn create<D: Disk>(disk: &mut D, shelf: Shelf) -> Result<(), CreateFault>
     // A crash at any moment leaves what it might have left before; or, only where there was no log, none or a whole new one.
     ensures any_moment { ForSome (D.reads disk.old) (λ files. LeavesOnly D.moment D.left_since disk.old disk.new (IsMaking shelf files (D.may_leave disk.old))) }
     ensures alone { LeavesAlone (IsElsewhere shelf) D.reads D.may_leave D.moment D.left_since D.faults disk.old disk.new }
+    ensures none_gone { NoneGone (D.reads disk.old) (D.reads disk.new) }
     ensures cause { IsErrOf result CreateFault.Disk → Rose (D.faults disk.old) (D.faults disk.new) }
 {
     if is_made(disk, shelf)? {
@@ -59,6 +60,7 @@ fn make<D: Disk>(disk: &mut D, shelf: Shelf) -> Result<(), DiskFault>
     ensures rests { OnOk result (ForSome (D.reads disk.new) (λ files. Rests shelf files (D.may_leave disk.new))) }
     ensures any_moment { ForSome (D.reads disk.old) (λ files. LeavesOnly D.moment D.left_since disk.old disk.new (IsMaking shelf files (D.may_leave disk.old))) }
     ensures alone { LeavesAlone (IsElsewhere shelf) D.reads D.may_leave D.moment D.left_since D.faults disk.old disk.new }
+    ensures none_gone { NoneGone (D.reads disk.old) (D.reads disk.new) }
     ensures cause { HasCause (D.faults disk.old) (D.faults disk.new) result }
 {
     make_logs(disk, shelf)?;
@@ -70,6 +72,7 @@ fn make<D: Disk>(disk: &mut D, shelf: Shelf) -> Result<(), DiskFault>
 fn make_logs<D: Disk>(disk: &mut D, shelf: Shelf) -> Result<(), DiskFault>
     ensures made { OnOk result (ForSome (D.reads disk.old) (λ files. (now : Files) × (D.reads disk.new ≡ Some now) × HasLogs shelf files now (D.may_leave disk.new))) }
     ensures alone { LeavesAlone (IsNoLog shelf) D.reads D.may_leave D.moment D.left_since D.faults disk.old disk.new }
+    ensures none_gone { NoneGone (D.reads disk.old) (D.reads disk.new) }
     ensures cause { HasCause (D.faults disk.old) (D.faults disk.new) result }
 {
     let first = log_at(shelf, Side::First);

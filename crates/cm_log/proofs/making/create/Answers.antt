@@ -3,6 +3,7 @@ use Rattle.cm_disk.specs.declared.disk.DiskFault.{DiskFault}
 use Rattle.cm_log.specs.Shelves.{IsElsewhere, ready_place}
 use Rattle.cm_log.proofs.Frames.{alone_only, alone_then}
 use Rattle.cm_log.proofs.Made.{making_quiet, making_then, none_sure}
+use Rattle.cm_log.proofs.Present.{gone_same, gone_then}
 use Rattle.cm_log.proofs.making.create.Goals as goal
 
 pub returns-in_err-is_made-clause-any_moment : goal.returns-in_err-is_made-clause-any_moment
@@ -52,3 +53,27 @@ returns-clause-made g c x told = c.in_ok-make.ensures.made x (c.is_made.ensures.
 
 pub returns-clause-rests : goal.returns-clause-rests
 returns-clause-rests g c other x told = c.in_ok-make.ensures.rests x told
+
+pub returns-in_err-is_made-clause-none_gone : goal.returns-in_err-is_made-clause-none_gone
+returns-in_err-is_made-clause-none_gone g c =
+    let d = g.D.Disk in
+    gone_same (d.reads c.args.disk.now) (d.reads c.is_made.new.disk) c.is_made.ensures.only.same
+
+pub returns-then-branch-clause-none_gone : goal.returns-then-branch-clause-none_gone
+returns-then-branch-clause-none_gone g c =
+    let d = g.D.Disk in
+    gone_same (d.reads c.args.disk.now) (d.reads c.is_made.new.disk) c.is_made.ensures.only.same
+
+pub returns-in_err-make-clause-none_gone : goal.returns-in_err-make-clause-none_gone
+returns-in_err-make-clause-none_gone g c =
+    let d = g.D.Disk in
+    gone_then (d.reads c.args.disk.now) (d.reads c.is_made.new.disk) (d.reads c.make.new.disk)
+    (gone_same (d.reads c.args.disk.now) (d.reads c.is_made.new.disk) c.is_made.ensures.only.same)
+    c.make.ensures.none_gone
+
+pub returns-clause-none_gone : goal.returns-clause-none_gone
+returns-clause-none_gone g c =
+    let d = g.D.Disk in
+    gone_then (d.reads c.args.disk.now) (d.reads c.is_made.new.disk) (d.reads c.make.new.disk)
+    (gone_same (d.reads c.args.disk.now) (d.reads c.is_made.new.disk) c.is_made.ensures.only.same)
+    c.make.ensures.none_gone

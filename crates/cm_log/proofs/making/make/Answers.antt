@@ -7,6 +7,7 @@ use Rattle.cm_log.specs.Shelves.{IsElsewhere}
 use Rattle.cm_log.specs.Settled.{Rests}
 use Rattle.cm_log.proofs.Frames.{alone_fewer, alone_then}
 use Rattle.cm_log.proofs.Made.{makes, rests_made, making_logs, making_ready}
+use Rattle.cm_log.proofs.Present.{gone_then}
 use Rattle.cm_log.proofs.making.make.Goals as goal
 
 pub returns-in_err-make_logs-clause-alone : goal.returns-in_err-make_logs-clause-alone
@@ -58,3 +59,13 @@ returns-clause-rests g c x told =
     let is : put logs.0 c.ready_at.result (Some []) ≡ x = same_Some _ x (sym (c.in_ok-write_file.ensures.made logs.0 logs.1) ∙ told) in
     subst (λ (files : Files). Rests c.args.shelf files (d.may_leave c.write_file.new.disk)) is
     (rests_made c.args.shelf start.0 logs.0 (d.may_leave c.make_logs.new.disk) (d.may_leave c.write_file.new.disk) c.ready_at.result c.ready_at.ensures logs.2 (c.in_ok-write_file.ensures.durable logs.0 logs.1) c.write_file.ensures.alone.others)
+
+pub returns-in_err-write_file-clause-none_gone : goal.returns-in_err-write_file-clause-none_gone
+returns-in_err-write_file-clause-none_gone g c =
+    let d = g.D.Disk in
+    gone_then (d.reads c.args.disk.now) (d.reads c.make_logs.new.disk) (d.reads c.write_file.new.disk) c.make_logs.ensures.none_gone c.write_file.ensures.none_gone
+
+pub returns-clause-none_gone : goal.returns-clause-none_gone
+returns-clause-none_gone g c =
+    let d = g.D.Disk in
+    gone_then (d.reads c.args.disk.now) (d.reads c.make_logs.new.disk) (d.reads c.write_file.new.disk) c.make_logs.ensures.none_gone c.write_file.ensures.none_gone

@@ -8,6 +8,7 @@ use Rattle.cm_log.specs.Settled.{live_log, idle_log}
 use Rattle.cm_log.proofs.Apart.{logs_apart}
 use Rattle.cm_log.proofs.Frames.{alone_fewer, alone_then}
 use Rattle.cm_log.proofs.Rest.{logs_at}
+use Rattle.cm_log.proofs.Present.{gone_then}
 use Rattle.cm_log.proofs.making.make_logs.Goals as goal
 
 pub returns-in_err-live-clause-alone : goal.returns-in_err-live-clause-alone
@@ -47,3 +48,13 @@ returns-clause-made g c x told =
         others = λ q other. put_there one second (Some idle_log) q (λ is. other Second (is ∙ c.log_at-second.ensures)) ∙ put_there x first (Some live_log) q (λ is. other First (is ∙ c.log_at-first.ensures));
       },
     )
+
+pub returns-in_err-write_file-clause-none_gone : goal.returns-in_err-write_file-clause-none_gone
+returns-in_err-write_file-clause-none_gone g c =
+    let d = g.D.Disk in
+    gone_then (d.reads c.args.disk.now) (d.reads c.write_file-live.new.disk) (d.reads c.write_file.new.disk) c.write_file-live.ensures.none_gone c.write_file.ensures.none_gone
+
+pub returns-clause-none_gone : goal.returns-clause-none_gone
+returns-clause-none_gone g c =
+    let d = g.D.Disk in
+    gone_then (d.reads c.args.disk.now) (d.reads c.write_file-live.new.disk) (d.reads c.write_file.new.disk) c.write_file-live.ensures.none_gone c.write_file.ensures.none_gone

@@ -1,10 +1,11 @@
-use Rattle.std.proofs.Common.{length, sym, ◌∙◌, ap}
+use Rattle.std.proofs.Common.{length, sym, ◌∙◌, ap, refl}
 use Rattle.std.specs.Prelude.{◌≢◌, Some}
 use Rattle.std.proofs.lemmas.Option.{same_Some}
 use Rattle.cm_disk.specs.Disk.{File, Files, put, written, shortened}
 use Rattle.cm_disk.proofs.Puts.{told_before, put_here, put_put}
 use Rattle.cm_log.proofs.Written.{may_cut, cut_file}
 use Rattle.cm_log.proofs.Frames.{only_call, alone_call, alone_only, alone_then}
+use Rattle.cm_log.proofs.Present.{gone_call, gone_same, gone_then}
 use Rattle.cm_log.proofs.whole.write_file.Goals as goal
 
 pub cut-requires : goal.cut-requires
@@ -58,3 +59,33 @@ returns-clause-alone g c =
     (alone_call d.reads d.may_leave d.moment d.left_since d.faults c.write_at.new.self c.cut.new.self (g.met.D.Disk.only_now c.write_at.new.self) c.args.place.now (shortened (length c.args.bytes.now)) _ c.cut.result c.cut.ensures.work c.cut.ensures.touches c.cut.ensures.time c.cut.ensures.cause.later))
     (alone_only (λ q. q ≢ c.args.place.now)
     (only_call d.reads d.may_leave d.moment d.left_since d.faults c.cut.new.self c.sync.new.self (g.met.D.Disk.only_now c.cut.new.self) c.sync.ensures.same c.sync.ensures.stop c.sync.ensures.time c.sync.ensures.cause.later))
+
+pub returns-in_err-write_at-clause-none_gone : goal.returns-in_err-write_at-clause-none_gone
+returns-in_err-write_at-clause-none_gone g c =
+    let d = g.D.Disk in
+    gone_call (d.reads c.args.disk.now) (d.reads c.write_at.new.self) c.args.place.now (written 0 c.args.bytes.now) c.write_at.result (λ file. refl) c.write_at.ensures.work
+
+pub returns-in_err-cut-clause-none_gone : goal.returns-in_err-cut-clause-none_gone
+returns-in_err-cut-clause-none_gone g c =
+    let d = g.D.Disk in
+    gone_then (d.reads c.args.disk.now) (d.reads c.write_at.new.self) (d.reads c.cut.new.self)
+    (gone_call (d.reads c.args.disk.now) (d.reads c.write_at.new.self) c.args.place.now (written 0 c.args.bytes.now) c.write_at.result (λ file. refl) c.write_at.ensures.work)
+    (gone_call (d.reads c.write_at.new.self) (d.reads c.cut.new.self) c.args.place.now (shortened (length c.args.bytes.now)) c.cut.result (λ file. refl) c.cut.ensures.work)
+
+pub returns-in_err-sync-clause-none_gone : goal.returns-in_err-sync-clause-none_gone
+returns-in_err-sync-clause-none_gone g c =
+    let d = g.D.Disk in
+    gone_then (d.reads c.args.disk.now) (d.reads c.cut.new.self) (d.reads c.sync.new.self)
+    (gone_then (d.reads c.args.disk.now) (d.reads c.write_at.new.self) (d.reads c.cut.new.self)
+    (gone_call (d.reads c.args.disk.now) (d.reads c.write_at.new.self) c.args.place.now (written 0 c.args.bytes.now) c.write_at.result (λ file. refl) c.write_at.ensures.work)
+    (gone_call (d.reads c.write_at.new.self) (d.reads c.cut.new.self) c.args.place.now (shortened (length c.args.bytes.now)) c.cut.result (λ file. refl) c.cut.ensures.work))
+    (gone_same (d.reads c.cut.new.self) (d.reads c.sync.new.self) c.sync.ensures.same)
+
+pub returns-clause-none_gone : goal.returns-clause-none_gone
+returns-clause-none_gone g c =
+    let d = g.D.Disk in
+    gone_then (d.reads c.args.disk.now) (d.reads c.cut.new.self) (d.reads c.sync.new.self)
+    (gone_then (d.reads c.args.disk.now) (d.reads c.write_at.new.self) (d.reads c.cut.new.self)
+    (gone_call (d.reads c.args.disk.now) (d.reads c.write_at.new.self) c.args.place.now (written 0 c.args.bytes.now) c.write_at.result (λ file. refl) c.write_at.ensures.work)
+    (gone_call (d.reads c.write_at.new.self) (d.reads c.cut.new.self) c.args.place.now (shortened (length c.args.bytes.now)) c.cut.result (λ file. refl) c.cut.ensures.work))
+    (gone_same (d.reads c.cut.new.self) (d.reads c.sync.new.self) c.sync.ensures.same)
