@@ -1,12 +1,13 @@
 -- The places that a call leaves alone, and those that are there.
 use Rattle.std.proofs.Common.{◌≡◌, ◌⊎◌, inl, inr, ℕ, ◌+◌, ◌<◌, ◌≤◌, ◌^◌, Bool, true, false, List, [], ◌∷◌, ◌++◌, length, refl, sym, ◌∙◌, ap, subst}
-use Rattle.std.specs.Prelude.{◌≢◌, Option, is_some, Result, Ok, Err, if◌then◌else◌}
+use Rattle.std.specs.Prelude.{◌≢◌, Option, is_some, Result, Ok, Err}
 use Rattle.std.specs.Str.{bytes_eq}
 use Rattle.std.proofs.lemmas.Bool.{false≢true}
+use Rattle.std.proofs.lemmas.Option.{same_Some}
 use Rattle.std.proofs.lemmas.Slice.Eq.{bytes_eq-Decides}
 use Rattle.hex.specs.Hex.{IsBytes}
 use Rattle.cm_base.specs.Names.{is_package_id}
-use Rattle.cm_disk.specs.Disk.{File, Files, Does, IsPartly, put}
+use Rattle.cm_disk.specs.Disk.{File, Files, Does, put}
 use Rattle.cm_disk.proofs.Puts.{put_there}
 use Rattle.cm_log.specs.declared.shelf.Shelf.{Shelf}
 use Rattle.cm_log.specs.declared.shelf.Shelf.TheVariants.{PkgLib}
@@ -15,7 +16,9 @@ use Rattle.cm_log.specs.declared.state.Log.{Log}
 use Rattle.cm_log.specs.Logs.{Entry, Shelved, Live, closed, shelved, added}
 use Rattle.cm_log.specs.Settled.{shelf_of, place_of, end_of, EndsIn}
 use Rattle.cm_log.proofs.Shelveds.{ended_by}
-use Rattle.cm_log.specs.Shelves.{log_place}
+use Rattle.cm_log.specs.Frames.{KeepsReads, NoneGone}
+use Rattle.cm_log.specs.Shelves.{log_place, IsElsewhere}
+use Rattle.cm_log.proofs.Present.{put_present, partly_present}
 use Rattle.cm_datalib.specs.Places.{manifest_place}
 use Rattle.cm_datalib.proofs.Names.{is_version_by}
 use Rattle.cm_filelib.specs.Places.{file_place}
@@ -47,23 +50,29 @@ joined_places old mid new first second = λ files told.
 pub put_places : (files : Files) (place : List ℕ) (file : File) → IsLibraryPlace place → (is_some (files place) ≡ true → is_some file ≡ true) → KeepsPlaces files (put files place file)
 put_places files place file own there = record {
   others = λ q other. put_there files place file q (λ same. other (subst IsLibraryPlace (sym same) own));
-  kept = λ q was. at q was (bytes_eq place q) refl;
+  kept = put_present files place file there;
 }
-  where
-    at : (q : List ℕ) → is_some (files q) ≡ true → (b : Bool) → bytes_eq place q ≡ b → is_some (if b then file else files q) ≡ true
-    at q was true same = there (ap (λ (p : List ℕ). is_some (files p)) ((bytes_eq-Decides place q).0 same) ∙ was)
-    at q was false other = was
 
--- work that makes the file, or any part of it
-partly_there : (before after now : File) → IsPartly before after now → is_some after ≡ true → is_some before ≡ true → is_some now ≡ true
-partly_there before after now partly made was = elim partly.there [ inl same ↦ same ∙ was | inr same ↦ same ∙ made ]
-
+-- work that makes the file, done or failed
 pub does_places : {T E : Type 0} (old new : Option Files) (place : List ℕ) (work : File → File) (result : Result T E) → IsLibraryPlace place → ((file : File) → is_some (work file) ≡ true) → Does old new place work result → Told KeepsPlaces old new
 does_places old new place work (Ok x) own makes does = λ files told.
     (put files place (work (files place)), does.ok files told, put_places files place (work (files place)) own (λ was. makes (files place)))
 does_places old new place work (Err e) own makes does = λ files told.
     let partly = does.err files told in
-    (put files place partly.0, partly.1, put_places files place partly.0 own (partly_there (files place) (work (files place)) partly.0 partly.2 (makes (files place))))
+    (put files place partly.0, partly.1, put_places files place partly.0 own (partly_present (files place) (work (files place)) partly.0 partly.2 (makes (files place))))
+
+-- a log is made
+pub made_places : (old new : Option Files) → KeepsReads (IsElsewhere PkgLib) old new → NoneGone old new → Told KeepsPlaces old new
+made_places old new elsewhere gone = λ files told.
+    let a = elsewhere files told in
+    let b = gone files told in (
+      a.0,
+      a.1,
+      record {
+        others = λ q other. a.2 q (record { ready = λ same. other (inl (inl same)); logs = λ side same. other (inl (inr (side, same))) });
+        kept = subst (λ (now : Files). (q : List ℕ) → is_some (files q) ≡ true → is_some (now q) ≡ true) (same_Some b.0 a.0 (sym b.1 ∙ a.1)) b.2;
+      },
+    )
 
 -- the place of a manifest, and that of a file
 pub manifest_own : (id : List ℕ) (version : ℕ) → is_package_id id ≡ true → 1 ≤ version → version < 2 ^ 32 → IsLibraryPlace (manifest_place id version)

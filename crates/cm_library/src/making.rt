@@ -3,8 +3,10 @@ ghost use Rattle.std.specs.Prelude.{◌≡◌, ◌≢◌, ◌≤◌, OnOk, IsErr
 ghost use Rattle.std.specs.Option.{ForSome};
 ghost use Rattle.cm_base.specs.Causes.{Rose};
 ghost use Rattle.cm_disk.specs.Disk.{Files, IsImage, LeavesOnly};
+ghost use Rattle.cm_state.specs.Adding.{Told};
 ghost use Rattle.cm_state.specs.Look.{Missing, look};
 ghost use Rattle.cm_state.specs.Becomes.{Makes, IsMade, IsMadeOrNot};
+ghost use Rattle.cm_library.specs.Placing.{KeepsPlaces};
 
 use crate::library::Library;
 use cm_disk::Disk;
@@ -19,6 +21,7 @@ impl<D: Disk> Library<D> {
         ensures made { OnOk result (Makes (D.reads disk.old) (D.reads disk.new)) }
         ensures there { IsErrOf result CreateFault.AlreadyThere → ForSome (D.reads disk.old) (λ files. look files ≢ Missing) }
         ensures same { IsErrOf result CreateFault.AlreadyThere → D.reads disk.new ≡ D.reads disk.old }
+        ensures places { Told KeepsPlaces (D.reads disk.old) (D.reads disk.new) }
         // A crash at any moment leaves what it might have left before; or, only where there was no library, none or an empty one.
         // After Ok an empty one.
         ensures any_moment { ForSome (D.reads disk.old) (λ files. LeavesOnly D.moment D.left_since disk.old disk.new (IsMadeOrNot files (D.may_leave disk.old))) }

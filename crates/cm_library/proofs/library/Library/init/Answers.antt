@@ -11,6 +11,7 @@ use Rattle.cm_log.specs.declared.shelf.Side.{Side}
 use Rattle.cm_log.proofs.Shelveds.{alike}
 use Rattle.cm_state.specs.Becomes.{Makes, IsMade, IsMadeOrNot}
 use Rattle.cm_state.proofs.Looks.{missing, not_missing, opens_empty}
+use Rattle.cm_library.proofs.KeptPlaces.{made_places}
 use Rattle.cm_library.proofs.library.Library.init.Goals as goal
 
 made : (old new : Option Files) (result : Result (Unit {0}) CreateFault) → OnOk result (ForSome old (λ files. (now : Files) × (new ≡ Some now) × MakesLog PkgLib files now)) → OnOk result (Makes old new)
@@ -58,3 +59,6 @@ returns-clause-any_moment g c = λ files told.
       each = λ left since. as_library files may_leave left (made.each left since);
       before = λ t left early since. elim (made.before t left early since) [ inl past ↦ inl past | inr making ↦ inr (as_library files may_leave left making) ];
     }
+
+pub returns-clause-places : goal.returns-clause-places
+returns-clause-places g c = made_places (g.D.Disk.reads c.args.disk.now) (g.D.Disk.reads c.create.new.disk) c.create.ensures.alone.kept c.create.ensures.none_gone
