@@ -1,6 +1,7 @@
 -- Three files make a new log, whatever the disk.
 use Rattle.std.proofs.Common.{◌≡◌, ◌⊎◌, inl, inr, ⊎_elim, ℕ, List, [], length, take, Bool, Option, None, Some, is_some, option_map, false, true, refl, sym, ◌∙◌, ap, subst}
-use Rattle.std.specs.Prelude.{◌≢◌}
+use Rattle.std.specs.Prelude.{◌≢◌, Result, Ok, Err, OnErr}
+use Rattle.std.specs.Option.{ForSome}
 use Rattle.std.proofs.lemmas.Bool.{false≢true}
 use Rattle.cm_disk.specs.Disk.{File, Files, bytes_of, put, Only, IsImage, LeavesNoMore, LeavesOnly}
 use Rattle.cm_disk.proofs.Moments.{joins, weaker}
@@ -10,10 +11,11 @@ use Rattle.cm_log.specs.declared.shelf.Side.{Side}
 use Rattle.cm_log.specs.declared.shelf.Side.TheVariants.{First, Second}
 use Rattle.cm_log.specs.declared.head.Head.{Head}
 use Rattle.cm_log.specs.declared.head.Choice.{Choice}
+use Rattle.cm_log.specs.Frames.{KeepsReads}
 use Rattle.cm_log.specs.Shelves.{ready_place, log_place, IsNoLog}
 use Rattle.cm_log.specs.Heads.{head_of, choice}
 use Rattle.cm_log.specs.Logs.{NoLog, Live, reading_at, head_at, told_by, shelved_by, shelved, IsLook, fresh}
-use Rattle.cm_log.specs.Settled.{live_log, idle_log, HasLogs, Makes, Rests, IsMaking}
+use Rattle.cm_log.specs.Settled.{live_log, idle_log, HasLogs, Makes, MakesOrNot, Rests, IsMaking}
 use Rattle.cm_log.proofs.Apart.{ready_apart}
 
 pub no_ready : (shelf : Shelf) (files : Files) → files (ready_place shelf) ≡ None → shelved shelf files ≡ NoLog
@@ -89,6 +91,35 @@ makes shelf files now may_leave place is none logs =
       bytes = record { ready = ready; first = log First ∙ logs.first; second = log Second ∙ logs.second };
       others = λ q elsewhere. put_there now place (Some []) q (λ e. elsewhere.ready (e ∙ is)) ∙ logs.others q elsewhere.logs;
     }
+
+-- a fact that holds is one after an Err
+pub after_err : {T E P : Type 0} (r : Result T E) → P → OnErr r P
+after_err (Ok x) p = tt
+after_err (Err e) p = p
+
+-- what reads give after a failure: if nothing was written, what they gave
+pub failed_quiet : (shelf : Shelf) (old new : Option Files) → new ≡ old → MakesOrNot shelf old new
+failed_quiet shelf old new same = λ files told. (files, same ∙ told, inl same)
+
+-- after calls that write nothing, what the making gives
+pub failed_then : (shelf : Shelf) (old mid new : Option Files) → mid ≡ old → MakesOrNot shelf mid new → MakesOrNot shelf old new
+failed_then shelf old mid new same failed = subst (λ (o : Option Files). MakesOrNot shelf o new) same failed
+
+-- while the logs are written, no log
+pub failed_logs : (shelf : Shelf) (old new : Option Files) → ForSome old (λ files. files (ready_place shelf) ≡ None) → KeepsReads (IsNoLog shelf) old new → MakesOrNot shelf old new
+failed_logs shelf old new blank kept = λ files told.
+    let none = blank files told in
+    let now = kept files told in
+    (now.0, now.1, inr (no_ready shelf files none, inl (no_ready shelf now.0 (now.2 (ready_place shelf) (ready_apart shelf) ∙ none))))
+
+-- while `ready` is, none or a whole new one
+pub failed_ready : (shelf : Shelf) (old mid new : Option Files) (may_leave : List ℕ → File → Type 0) (place : List ℕ) → place ≡ ready_place shelf → ForSome old (λ files. files (ready_place shelf) ≡ None)
+    → ForSome old (λ files. (now : Files) × (mid ≡ Some now) × HasLogs shelf files now may_leave) → KeepsReads (λ q. q ≢ place) mid new → MakesOrNot shelf old new
+failed_ready shelf old mid new may_leave place is blank made kept = λ files told.
+    let logs = made files told in
+    let now = kept logs.0 logs.1 in
+    let log : (side : Side) → now.0 (log_place shelf side) ≡ logs.0 (log_place shelf side) = λ side. now.2 (log_place shelf side) (λ e. ready_apart shelf side (sym (e ∙ is))) in
+    (now.0, now.1, inr (no_ready shelf files (blank files told), either_fresh shelf now.0 (now.0 (ready_place shelf)) refl (log First ∙ logs.2.first) (log Second ∙ logs.2.second)))
 
 -- and once it is durable all of it is
 pub rests_made : (shelf : Shelf) (files now : Files) (old new : List ℕ → File → Type 0) (place : List ℕ) → place ≡ ready_place shelf → HasLogs shelf files now old → Only (Some []) (new place)

@@ -1,5 +1,6 @@
 -- A log and its reader on a disk.
-use Rattle.std.specs.Prelude.{◌≡◌, ◌≢◌, ◌⊎◌, ℕ, ◌+◌, ◌-◌, ◌≤◌, ◌==◌, Bool, true, List, [], ◌∷◌, ◌++◌, length, take, drop, Some}
+use Rattle.std.specs.Prelude.{◌≡◌, ◌≢◌, ◌⊎◌, ℕ, ◌+◌, ◌-◌, ◌≤◌, ◌==◌, Bool, true, List, [], ◌∷◌, ◌++◌, length, take, drop, Option, Some}
+use Rattle.std.specs.Option.{ForSome}
 use Rattle.cm_disk.specs.Disk.{File, Files, bytes_of, IsImage, Only}
 use Rattle.cm_log.specs.declared.shelf.Shelf.{Shelf}
 use Rattle.cm_log.specs.declared.shelf.Side.{Side}
@@ -141,6 +142,10 @@ pub record Makes (shelf : Shelf) (files now : Files) : Type 0 where
   pub made : shelved shelf now ≡ fresh shelf
   pub bytes : HasNewLog shelf now
   pub others : (q : List ℕ) → IsElsewhere shelf q → now q ≡ files q
+
+-- The making of a log failed: reads give what they gave; or, only if they gave no log, they give none or a whole new one.
+abbrev pub MakesOrNot : Shelf → Option Files → Option Files → Type 0
+MakesOrNot shelf old new = ForSome old (λ files. (now : Files) × (new ≡ Some now) × ((new ≡ old) ⊎ ((shelved shelf files ≡ NoLog) × ((shelved shelf now ≡ NoLog) ⊎ (shelved shelf now ≡ fresh shelf)))))
 
 -- a record more, and nothing else has changed
 pub record Adds (shelf : Shelf) (place : List ℕ) (files now : Files) (body : List ℕ) : Type 0 where

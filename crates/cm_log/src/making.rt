@@ -1,11 +1,11 @@
 //! A log is made.
-ghost use Rattle.std.specs.Prelude.{◌≡◌, ◌≢◌, List, ℕ, None, Some, IsSome, is_some, true, Ok, Err, OnOk, IfOk, IsErrOf};
+ghost use Rattle.std.specs.Prelude.{◌≡◌, ◌≢◌, List, ℕ, None, Some, IsSome, is_some, true, Ok, Err, OnOk, OnErr, IfOk, IsErrOf};
 ghost use Rattle.std.specs.Option.{ForSome};
 ghost use Rattle.cm_base.specs.Causes.{Rose, HasCause};
 ghost use Rattle.cm_disk.specs.Disk.{Files, Only, LeavesOnly};
 ghost use Rattle.cm_log.specs.Frames.{OnlyReads, LeavesAlone, NoneGone};
 ghost use Rattle.cm_log.specs.Shelves.{ready_place, IsElsewhere, IsNoLog};
-ghost use Rattle.cm_log.specs.Settled.{Rests, Makes, HasLogs, IsMaking};
+ghost use Rattle.cm_log.specs.Settled.{Rests, Makes, MakesOrNot, HasLogs, IsMaking};
 
 use crate::faults::CreateFault;
 use crate::opening::sync_logs;
@@ -26,6 +26,8 @@ pub fn create<D: Disk>(disk: &mut D, shelf: Shelf) -> Result<(), CreateFault>
     ensures any_moment { ForSome (D.reads disk.old) (λ files. LeavesOnly D.moment D.left_since disk.old disk.new (IsMaking shelf files (D.may_leave disk.old))) }
     ensures alone { LeavesAlone (IsElsewhere shelf) D.reads D.may_leave D.moment D.left_since D.faults disk.old disk.new }
     ensures none_gone { NoneGone (D.reads disk.old) (D.reads disk.new) }
+    // After `Disk` reads give what they gave; or, only where there was no log, they give none or a whole new one.
+    ensures failed { IsErrOf result CreateFault.Disk → MakesOrNot shelf (D.reads disk.old) (D.reads disk.new) }
     ensures cause { IsErrOf result CreateFault.Disk → Rose (D.faults disk.old) (D.faults disk.new) }
 {
     if is_made(disk, shelf)? {
@@ -61,6 +63,7 @@ fn make<D: Disk>(disk: &mut D, shelf: Shelf) -> Result<(), DiskFault>
     ensures any_moment { ForSome (D.reads disk.old) (λ files. LeavesOnly D.moment D.left_since disk.old disk.new (IsMaking shelf files (D.may_leave disk.old))) }
     ensures alone { LeavesAlone (IsElsewhere shelf) D.reads D.may_leave D.moment D.left_since D.faults disk.old disk.new }
     ensures none_gone { NoneGone (D.reads disk.old) (D.reads disk.new) }
+    ensures failed { OnErr result (MakesOrNot shelf (D.reads disk.old) (D.reads disk.new)) }
     ensures cause { HasCause (D.faults disk.old) (D.faults disk.new) result }
 {
     make_logs(disk, shelf)?;

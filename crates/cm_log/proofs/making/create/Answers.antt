@@ -2,7 +2,7 @@ use Rattle.std.proofs.Common.{Bool, Result, Ok, sym, ◌∙◌, ap}
 use Rattle.cm_disk.specs.declared.disk.DiskFault.{DiskFault}
 use Rattle.cm_log.specs.Shelves.{IsElsewhere, ready_place}
 use Rattle.cm_log.proofs.Frames.{alone_only, alone_then}
-use Rattle.cm_log.proofs.Made.{making_quiet, making_then, none_sure}
+use Rattle.cm_log.proofs.Made.{making_quiet, making_then, failed_quiet, failed_then, none_sure}
 use Rattle.cm_log.proofs.Present.{gone_same, gone_then}
 use Rattle.cm_log.proofs.making.create.Goals as goal
 
@@ -77,3 +77,13 @@ returns-clause-none_gone g c =
     gone_then (d.reads c.args.disk.now) (d.reads c.is_made.new.disk) (d.reads c.make.new.disk)
     (gone_same (d.reads c.args.disk.now) (d.reads c.is_made.new.disk) c.is_made.ensures.only.same)
     c.make.ensures.none_gone
+
+pub returns-in_err-is_made-clause-failed : goal.returns-in_err-is_made-clause-failed
+returns-in_err-is_made-clause-failed g c fault =
+    let d = g.D.Disk in
+    failed_quiet c.args.shelf (d.reads c.args.disk.now) (d.reads c.is_made.new.disk) c.is_made.ensures.only.same
+
+pub returns-in_err-make-clause-failed : goal.returns-in_err-make-clause-failed
+returns-in_err-make-clause-failed g c fault =
+    let d = g.D.Disk in
+    failed_then c.args.shelf (d.reads c.args.disk.now) (d.reads c.is_made.new.disk) (d.reads c.make.new.disk) c.is_made.ensures.only.same c.in_err-make.ensures.failed

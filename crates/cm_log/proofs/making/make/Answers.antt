@@ -6,7 +6,7 @@ use Rattle.cm_disk.proofs.Puts.{told_before}
 use Rattle.cm_log.specs.Shelves.{IsElsewhere}
 use Rattle.cm_log.specs.Settled.{Rests}
 use Rattle.cm_log.proofs.Frames.{alone_fewer, alone_then}
-use Rattle.cm_log.proofs.Made.{makes, rests_made, making_logs, making_ready}
+use Rattle.cm_log.proofs.Made.{makes, rests_made, making_logs, making_ready, after_err, failed_logs, failed_ready}
 use Rattle.cm_log.proofs.Present.{gone_then}
 use Rattle.cm_log.proofs.making.make.Goals as goal
 
@@ -69,3 +69,16 @@ pub returns-clause-none_gone : goal.returns-clause-none_gone
 returns-clause-none_gone g c =
     let d = g.D.Disk in
     gone_then (d.reads c.args.disk.now) (d.reads c.make_logs.new.disk) (d.reads c.write_file.new.disk) c.make_logs.ensures.none_gone c.write_file.ensures.none_gone
+
+pub returns-in_err-make_logs-clause-failed : goal.returns-in_err-make_logs-clause-failed
+returns-in_err-make_logs-clause-failed g c =
+    let d = g.D.Disk in
+    after_err c.from_residual.result
+    (failed_logs c.args.shelf (d.reads c.args.disk.now) (d.reads c.make_logs.new.disk) (λ files told. (c.requires.blank files told).0) c.make_logs.ensures.alone.kept)
+
+pub returns-in_err-write_file-clause-failed : goal.returns-in_err-write_file-clause-failed
+returns-in_err-write_file-clause-failed g c =
+    let d = g.D.Disk in
+    after_err c.from_residual-in_err-write_file.result
+    (failed_ready c.args.shelf (d.reads c.args.disk.now) (d.reads c.make_logs.new.disk) (d.reads c.write_file.new.disk) (d.may_leave c.make_logs.new.disk) c.ready_at.result c.ready_at.ensures
+    (λ files told. (c.requires.blank files told).0) c.in_ok-make_logs.ensures.made c.write_file.ensures.alone.kept)
