@@ -5,7 +5,7 @@ ghost use Rattle.cm_base.specs.Causes.{Rose};
 ghost use Rattle.cm_disk.specs.Disk.{Files, IsImage, LeavesOnly};
 ghost use Rattle.cm_state.specs.Adding.{Told};
 ghost use Rattle.cm_state.specs.Look.{Missing, look};
-ghost use Rattle.cm_state.specs.Becomes.{Makes, IsMade, IsMadeOrNot};
+ghost use Rattle.cm_state.specs.Becomes.{Makes, MakesOrNot, IsMade, IsMadeOrNot};
 ghost use Rattle.cm_library.specs.Placing.{KeepsPlaces};
 
 use crate::library::Library;
@@ -21,6 +21,8 @@ impl<D: Disk> Library<D> {
         ensures made { OnOk result (Makes (D.reads disk.old) (D.reads disk.new)) }
         ensures there { IsErrOf result CreateFault.AlreadyThere → ForSome (D.reads disk.old) (λ files. look files ≢ Missing) }
         ensures same { IsErrOf result CreateFault.AlreadyThere → D.reads disk.new ≡ D.reads disk.old }
+        // After `Disk` reads give what they gave; or, only where there was no library, they give none or an empty one.
+        ensures failed { IsErrOf result CreateFault.Disk → MakesOrNot (D.reads disk.old) (D.reads disk.new) }
         ensures places { Told KeepsPlaces (D.reads disk.old) (D.reads disk.new) }
         // A crash at any moment leaves what it might have left before; or, only where there was no library, none or an empty one.
         // After Ok an empty one.

@@ -24,3 +24,7 @@ IsMade left = look left ≡ Opened empty
 -- A crash while a library is made leaves what it might have left before; or, only if there was no library, none or an empty one.
 abbrev pub IsMadeOrNot : Files → (List ℕ → File → Type 0) → Files → Type 0
 IsMadeOrNot files may_leave left = IsImage may_leave left ⊎ ((look files ≡ Missing) × ((look left ≡ Missing) ⊎ IsMade left))
+
+-- The making of a library failed: the disk reads as before; or, only if there was no library, as none or as an empty one.
+abbrev pub MakesOrNot : Option Files → Option Files → Type 0
+MakesOrNot old new = ForSome old (λ files. (now : Files) × (new ≡ Some now) × ((new ≡ old) ⊎ ((look files ≡ Missing) × ((look now ≡ Missing) ⊎ IsMade now))))

@@ -5,11 +5,11 @@ use Rattle.cm_disk.specs.Disk.{File, Files, IsImage}
 use Rattle.cm_log.specs.declared.faults.CreateFault.{CreateFault}
 use Rattle.cm_log.specs.declared.faults.CreateFault.TheVariants.{Disk}
 use Rattle.cm_log.specs.declared.shelf.Shelf.TheVariants.{PkgLib}
-use Rattle.cm_log.specs.Settled.{Makes as MakesLog, Rests, IsMaking}
+use Rattle.cm_log.specs.Settled.{Makes as MakesLog, MakesOrNot as MakesLogOrNot, Rests, IsMaking}
 use Rattle.cm_log.specs.Shelves.{ready_place, log_place}
 use Rattle.cm_log.specs.declared.shelf.Side.{Side}
 use Rattle.cm_log.proofs.Shelveds.{alike}
-use Rattle.cm_state.specs.Becomes.{Makes, IsMade, IsMadeOrNot}
+use Rattle.cm_state.specs.Becomes.{Makes, MakesOrNot, IsMade, IsMadeOrNot}
 use Rattle.cm_state.proofs.Looks.{missing, not_missing, opens_empty}
 use Rattle.cm_library.proofs.KeptPlaces.{made_places}
 use Rattle.cm_library.proofs.library.Library.init.Goals as goal
@@ -59,6 +59,21 @@ returns-clause-any_moment g c = λ files told.
       each = λ left since. as_library files may_leave left (made.each left since);
       before = λ t left early since. elim (made.before t left early since) [ inl past ↦ inl past | inr making ↦ inr (as_library files may_leave left making) ];
     }
+
+-- what reads give after a failure, as a library
+failed : (old new : Option Files) → MakesLogOrNot PkgLib old new → MakesOrNot old new
+failed old new log = λ files told.
+    let now = log files told in (
+      now.0,
+      now.1,
+      elim now.2 [
+        | inl same ↦ inl same
+        | inr made ↦ inr (missing files made.0, elim made.1 [ inl none ↦ inl (missing now.0 none) | inr fresh ↦ inr (opens_empty now.0 fresh) ])
+      ],
+    )
+
+pub returns-clause-failed : goal.returns-clause-failed
+returns-clause-failed g c = λ fault. failed (g.D.Disk.reads c.args.disk.now) (g.D.Disk.reads c.create.new.disk) (c.create.ensures.failed fault)
 
 pub returns-clause-places : goal.returns-clause-places
 returns-clause-places g c = made_places (g.D.Disk.reads c.args.disk.now) (g.D.Disk.reads c.create.new.disk) c.create.ensures.alone.kept c.create.ensures.none_gone
