@@ -66,13 +66,21 @@ IsSmall held = length held.manifest ≤ 20000
 abbrev pub IsSealedAll : Counts → Held → Type 0
 IsSealedAll counts held = AllByRecursion (λ (entry : Entry). sealed_of counts entry.hash ≢ None) held.manifest
 
+-- only hashes that a version or an unfinished job names are sealed
+abbrev pub SealsNeeded : (Hash → Option Seal) → State → Type 0
+SealsNeeded seals state = (hash : Hash) → seals hash ≢ None → is_needed hash.0 state ≡ true
+
+-- each hash of a version is sealed
+abbrev pub AreVersionsSealed : (Hash → Option Seal) → State → Type 0
+AreVersionsSealed seals state = (hash : Hash) → is_named hash.0 state ≡ true → seals hash ≢ None
+
 -- The counts are those of a state and of one more manifest; what is sealed is needed, and each hash of a version is sealed.
 pub record IsCounted (counts : Counts) (state : State) (more : List Entry) : Type 0 where
   pub counted : (hash : Hash) → count_of counts hash ≡ times hash more + named_times hash state
   pub small_more : length more ≤ 20000
   pub small_versions : AllByRecursion IsSmall state.versions
   pub small_jobs : AllByRecursion (λ (job : ℕ × Held). IsSmall job.1) state.jobs
-  pub sealed_needed : (hash : Hash) → sealed_of counts hash ≢ None → is_needed hash.0 state ≡ true
+  pub sealed_needed : SealsNeeded (sealed_of counts) state
   pub versions_sealed : AllByRecursion (IsSealedAll counts) state.versions
 
 -- the job that a change finishes has its entries stored

@@ -25,7 +25,7 @@ use Rattle.cm_state.specs.Sound.{IsSound}
 use Rattle.cm_state.specs.State.{Held, State, rows_of, held_of, held_by_job}
 use Rattle.cm_state.proofs.Committed.{all_through}
 use Rattle.cm_state.proofs.Lists.{find_map, find_none, find_last}
-use Rattle.cm_contents.specs.Seals.{is_stored, not_stored, job_manifest, end_fault, if_needed, IsSealedAll, SealsVersions}
+use Rattle.cm_contents.specs.Seals.{is_stored, not_stored, job_manifest, end_fault, if_needed, IsSealedAll, SealsVersions, AreVersionsSealed}
 use Rattle.cm_library.specs.Calls.{KeepsNeeded}
 use Rattle.cm_library.specs.Started.{holder_of}
 use Rattle.cm_library.specs.Storing.{hash_of_file, Fills}
@@ -83,7 +83,7 @@ any_all p P (x ∷ xs) is all = by (p x) refl is (λ rest. any_all p P xs rest a
     by false here some later = later some
 
 -- each hash of a version is sealed
-pub named_sealed : (counts : Counts) (s : State) → AllByRecursion (IsSealedAll counts) s.versions → (hash : Hash) → is_named hash.0 s ≡ true → sealed_of counts hash ≢ None
+pub named_sealed : (counts : Counts) (s : State) → AllByRecursion (IsSealedAll counts) s.versions → AreVersionsSealed (sealed_of counts) s
 named_sealed counts s sealed hash named none =
     let held = any_all (λ (h : Held). has_hash hash.0 h.manifest) (IsSealedAll counts) s.versions named sealed in
     let entry = any_all (λ (e : Entry). bytes_eq e.hash.0 hash.0) (λ (e : Entry). sealed_of counts e.hash ≢ None) held.one.manifest held.passes held.holds in
@@ -99,8 +99,8 @@ or_true false b is = absurd (false≢true is)
 
 -- a tree is added by a job that begins and is filled
 module _ (s t : State) (job : ℕ) (id : List ℕ) (version : ℕ) (manifest : List Entry) (is : t ≡ changed (Begun job id version manifest) s)
-    (was seals : Hash → Option Seal) (sealed : (hash : Hash) → is_named hash.0 s ≡ true → was hash ≢ None) (kept : KeepsNeeded t was seals) (only : SealsVersions was s) where
-  still_sealed : (hash : Hash) → is_named hash.0 s ≡ true → seals hash ≢ None
+    (was seals : Hash → Option Seal) (sealed : AreVersionsSealed was s) (kept : KeepsNeeded t was seals) (only : SealsVersions was s) where
+  still_sealed : AreVersionsSealed seals s
   still_sealed hash named none =
       let needed : is_needed hash.0 t ≡ true = ap (λ (u : State). is_needed hash.0 u) is ∙ or_true (is_named hash.0 s) _ named in
       sealed hash named (sym (kept hash ∙ ap (λ (b : Bool). if_needed b (was hash)) needed) ∙ none)

@@ -1,16 +1,13 @@
 //! A tree in memory is added as a version.
-ghost use Rattle.std.specs.Prelude.{◌≡◌, ◌≢◌, ◌⊎◌, ◌≤◌, true, [], None, length, OnOk, IfErr, IsErrOf};
+ghost use Rattle.std.specs.Prelude.{◌≡◌, ◌≢◌, ◌⊎◌, ◌≤◌, [], None, length, OnOk, IfErr, IsErrOf};
 ghost use Rattle.std.specs.Option.{ForSome};
 ghost use Rattle.cm_base.specs.Causes.{Rose};
-ghost use Rattle.cm_base.specs.declared.hash.Hash.{Hash as a_hash};
 ghost use Rattle.cm_pkglib.specs.Counts.{seal_at};
 ghost use Rattle.cm_pkglib.specs.Rows.{last_of};
 ghost use Rattle.cm_tree.specs.Trees.{manifest_of};
 ghost use Rattle.cm_state.specs.Changes.{Begun, changed, replayed};
 ghost use Rattle.cm_state.specs.Adding.{Told, AddsTree};
 ghost use Rattle.cm_state.specs.Look.{Opened, look};
-ghost use Rattle.cm_state.specs.Needed.{is_named};
-ghost use Rattle.cm_state.specs.Sound.{IsSound};
 ghost use Rattle.cm_contents.specs.Seals.{SealsVersions};
 ghost use Rattle.cm_library.specs.Calls.{StaysSame};
 ghost use Rattle.cm_library.specs.Placing.{KeepsPlaces};
@@ -25,13 +22,6 @@ use cm_tree::Gathered;
 use std::alloc::Global;
 
 impl<D: Disk> Library<D> {
-    // Each hash of a version is sealed, which is said here alone.
-    fn show_versions_sealed(&self)
-        ensures sealed { (hash : a_hash) → is_named hash.0 self.now.state ≡ true → seal_at self.now.seals hash ≢ None }
-    {
-        let _counts = &self.counts;
-    }
-
     // Begins a job, stores its files from the tree, and finishes it.
     fn add_by_job(
         &mut self,
@@ -42,7 +32,6 @@ impl<D: Disk> Library<D> {
     ) -> Result<(), LibFault>
         requires settled { self.old.pending ≡ None }
         requires free { self.old.started ≡ [] }
-        requires sound { IsSound self.old.state }
         ensures settled { OnOk result (self.new.pending ≡ None) }
         ensures state { OnOk result (self.new.state ≡ replayed (changes_of_add «package» version (manifest_of tree.now) self.old.state) self.old.state) }
         ensures files { SealsVersions (seal_at self.old.seals) self.old.state → OnOk result (Told (AddsTree self.old.state tree.now) (D.reads self.old.disk) (D.reads self.new.disk)) }
@@ -52,7 +41,7 @@ impl<D: Disk> Library<D> {
         ensures later { D.faults self.old.disk ≤ D.faults self.new.disk }
         ensures cause { IsErrOf result LibFault.Disk → Rose (D.faults self.old.disk) (D.faults self.new.disk) }
     {
-        self.show_versions_sealed();
+        self.tells();
         let files = tree.files();
         match self.begin_fault(package, version, files.len() as u32) {
             Some(fault) => return Err(fault),

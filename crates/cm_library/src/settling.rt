@@ -7,6 +7,7 @@ ghost use Rattle.cm_log.specs.Frames.{OnlyReads};
 ghost use Rattle.cm_state.specs.Look.{Opened, look};
 ghost use Rattle.cm_state.specs.Opens.{OpensOr, StandsOr, EachOpensSome};
 ghost use Rattle.cm_state.specs.Sound.{IsSound};
+ghost use Rattle.cm_contents.specs.Seals.{SealsNeeded, AreVersionsSealed};
 ghost use Rattle.cm_library.specs.Calls.{Finds, StaysUnsettled, Tells};
 ghost use Rattle.cm_library.specs.Kept.{AreSealsSure, AreSealsSureSince};
 ghost use Rattle.cm_library.specs.Started.{AreStarted};
@@ -44,13 +45,17 @@ impl<D: Disk> Library<D> {
     }
 
     /// Says, to contracts alone, what a crash leaves now: the library in its state, or where a call has failed in that before its
-    /// change or after it. The file of each hash that was sealed since the opening is whole; and where each image opened to some state
-    /// at the opening, so are those of all sealed hashes and of the versions.
+    /// change or after it. Each hash of a version is sealed, and each sealed hash is one that a version or an unfinished job names. The
+    /// file of each hash that was sealed since the opening is whole; and where each image opened to some state at the opening, so are
+    /// those of all sealed hashes and of the versions.
     pub fn tells(&self)
         ensures sound { IsSound self.now.state }
         ensures files { ForSome (D.reads self.now.disk) (λ files. self.now.pending ≡ None → look files ≡ Opened self.now.state) }
         ensures stands { ForSome (D.reads self.now.disk) (λ _. (image : Files) → IsImage (D.may_leave self.now.disk) image → StandsOr self.now.state self.now.pending image) }
         ensures opens { EachOpensSome (D.may_leave self.now.start) → ForSome (D.reads self.now.disk) (λ _. (image : Files) → IsImage (D.may_leave self.now.disk) image → OpensOr self.now.state self.now.pending image) }
+        // Of the state as last settled, also while the change of a failed call is in question.
+        ensures needed { SealsNeeded (seal_at self.now.seals) self.now.state }
+        ensures versions { AreVersionsSealed (seal_at self.now.seals) self.now.state }
         ensures since { ForSome (D.reads self.now.disk) (λ _. AreSealsSureSince (D.may_leave self.now.disk) (seal_at self.now.seals)) }
         // Each started file is one that its unfinished job wants; it is not sealed, no other job has started its hash, and its place reads as
         // the bytes that were put so far.

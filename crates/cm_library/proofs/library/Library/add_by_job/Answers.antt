@@ -16,7 +16,7 @@ fill_job-requires-clause-unfinished g c =
     let job = c.in-Ok-begin_settled.job in
     let is = begun.ends.ok.0 ∙ ap (λ (j : ℕ). changed (Begun j c.args.«package» c.args.version c.in-Ok-copy.copy) s) (sym begun.job) in
     ap (λ (t : State). is_some (held_by_job job t.jobs)) is
-    ∙ ap (λ (o : Option Held). is_some o) (begun_held s job c.args.«package» c.args.version c.in-Ok-copy.copy c.requires.sound begun.job)
+    ∙ ap (λ (o : Option Held). is_some o) (begun_held s job c.args.«package» c.args.version c.in-Ok-copy.copy c.tells.ensures.sound begun.job)
 
 pub fill_job-requires-clause-manifest : goal.fill_job-requires-clause-manifest
 fill_job-requires-clause-manifest g c =
@@ -25,7 +25,7 @@ fill_job-requires-clause-manifest g c =
     let job = c.in-Ok-begin_settled.job in
     let is = begun.ends.ok.0 ∙ ap (λ (j : ℕ). changed (Begun j c.args.«package» c.args.version c.in-Ok-copy.copy) s) (sym begun.job) in
     ap (λ (t : State). job_manifest job t) is
-    ∙ ap (λ (o : Option Held). manifest_or_none o) (begun_held s job c.args.«package» c.args.version c.in-Ok-copy.copy c.requires.sound begun.job)
+    ∙ ap (λ (o : Option Held). manifest_or_none o) (begun_held s job c.args.«package» c.args.version c.in-Ok-copy.copy c.tells.ensures.sound begun.job)
     ∙ c.in-Ok-copy.ensures ∙ c.in-Ok.ensures
 
 pub fill_job-requires-clause-free : goal.fill_job-requires-clause-free
@@ -40,7 +40,7 @@ returns-in-Ok-fill_job-clause-files g c only x told =
     let is = begun.ends.ok.0 ∙ ap (λ (j : ℕ). changed (Begun j c.args.«package» c.args.version c.in-Ok-copy.copy) s) (sym begun.job) in
     let m = c.begin_settled.ensures.store x told in
     let n = c.in-Ok-fill_job.ensures.files m.0 m.1 in
-    (n.0, n.1, adds_tree s c.begin_settled.new.self.state job c.args.«package» c.args.version c.in-Ok-copy.copy is (seal_at c.args.self.now.seals) (seal_at c.begin_settled.new.self.seals) c.show_versions_sealed.ensures.sealed begun.ends.ok.3 only c.args.tree.now x m.0 n.0 m.2 n.2)
+    (n.0, n.1, adds_tree s c.begin_settled.new.self.state job c.args.«package» c.args.version c.in-Ok-copy.copy is (seal_at c.args.self.now.seals) (seal_at c.begin_settled.new.self.seals) c.tells.ensures.versions begun.ends.ok.3 only c.args.tree.now x m.0 n.0 m.2 n.2)
 
 pub returns-in-Ok-fill_job-clause-places : goal.returns-in-Ok-fill_job-clause-places
 returns-in-Ok-fill_job-clause-places g c =

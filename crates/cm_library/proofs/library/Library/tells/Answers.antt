@@ -8,8 +8,10 @@ use Rattle.cm_pkglib.specs.Counts.{seal_at}
 use Rattle.cm_pkglib.proofs.Times.{seals_are}
 use Rattle.cm_state.specs.Look.{Opened, look}
 use Rattle.cm_state.specs.Opens.{OpensOr, StandsOr, EachOpensSome}
+use Rattle.cm_contents.specs.Seals.{SealsNeeded, AreVersionsSealed}
 use Rattle.cm_library.specs.Kept.{Seen, pending_in, AreSealsSure, AreSealsSureSince}
 use Rattle.cm_library.specs.Started.{AreStarted}
+use Rattle.cm_library.proofs.FilledJob.{named_sealed}
 use Rattle.cm_library.proofs.Keeps.{kept_files, kept_stands}
 use Rattle.cm_library.proofs.Sure.{kept_opens}
 use Rattle.cm_library.proofs.library.Library.tells.Goals as goal
@@ -34,6 +36,19 @@ returns-clause-opens g c =
     let s = c.self.inside in
     subst (λ (v : Seen g.row.D.Denot). EachOpensSome (d.may_leave v.start) → ForSome (d.reads v.disk) (λ files. (image : Files) → IsImage (d.may_leave v.disk) image → OpensOr v.state v.pending image)) c.self.view_is
     (kept_opens d.reads d.may_leave s.start.value s.disk s.log s.contents s.counts s.pending c.self.invariant.kept)
+
+pub returns-clause-needed : goal.returns-clause-needed
+returns-clause-needed g c =
+    let s = c.self.inside in
+    subst (λ (v : Seen g.row.D.Denot). SealsNeeded (seal_at v.seals) v.state) c.self.view_is
+    (subst (λ (f : Hash → Option Seal). SealsNeeded f s.contents.state) (seals_are s.counts) c.self.invariant.kept.counted.sealed_needed)
+
+pub returns-clause-versions : goal.returns-clause-versions
+returns-clause-versions g c =
+    let s = c.self.inside in
+    subst (λ (v : Seen g.row.D.Denot). AreVersionsSealed (seal_at v.seals) v.state) c.self.view_is
+    (subst (λ (f : Hash → Option Seal). AreVersionsSealed f s.contents.state) (seals_are s.counts)
+    (named_sealed s.counts s.contents.state c.self.invariant.kept.counted.versions_sealed))
 
 pub returns-clause-since : goal.returns-clause-since
 returns-clause-since g c =
