@@ -1,5 +1,5 @@
 -- What the calls on files do on a settled library.
-use Rattle.std.specs.Prelude.{◌≡◌, ◌≢◌, ◌⊎◌, ℕ, ◌+◌, Bool, true, false, if◌then◌else◌, List, [], ◌++◌, length, Option, None, Some, IfSome, Result, IfOk, IfErr, OnOk}
+use Rattle.std.specs.Prelude.{◌≡◌, ◌≢◌, ◌⊎◌, ℕ, ◌+◌, Bool, true, false, if◌then◌else◌, List, [], ◌++◌, length, Option, None, Some, IfSome, Result, Ok, IfOk, IfErr, OnOk}
 use Rattle.std.specs.Option.{ForSome}
 use Rattle.std.specs.Result.{result_err}
 use Rattle.std.specs.Str.{bytes_eq}
@@ -100,12 +100,12 @@ abbrev pub TellsPlace : Option Files → Hash → Option ℕ → Bool → Type 0
 TellsPlace reads hash wanted is = ForSome wanted (λ size. ForSome reads (λ files. is ≡ is_file_of hash.0 size (files (file_place hash.0))))
 
 -- A file that is there is looked at, and sealed if it is right. A file of this hash that the job has started is given up. Where the hash
--- is sealed nothing is done.
+-- is sealed the answer is true, and nothing has changed, the disk neither.
 pub record Salvages {D : Type 0} (reads : D → Option Files) (job : ℕ) (hash : Hash) (old new : Seen D) (result : Result Bool LibFault) : Type 0 where
   pub refused : RefusesOr (salvage_fault old.state old.started job hash) result
   pub unchanged : IfErr result (λ fault. fault ≢ Disk → new ≡ old)
   pub rows : KeepsRows old new
-  pub was_sealed : salvage_fault old.state old.started job hash ≡ None → seal_at old.seals hash ≢ None → IfOk result (λ is. is ≡ true) × OnOk result (new ≡ old)
+  pub was_sealed : salvage_fault old.state old.started job hash ≡ None → seal_at old.seals hash ≢ None → (result ≡ Ok true) × (new ≡ old)
   pub value : IfOk result (λ is. seal_at old.seals hash ≡ None → TellsPlace (reads old.disk) hash (size_in hash (job_manifest job old.state)) is)
   pub sealed : IfOk result (λ is. is ≡ true → seal_at old.seals hash ≡ None → ForSome (size_in hash (job_manifest job old.state)) (λ size. SealsIt hash size (seal_at old.seals) (seal_at new.seals)))
   pub not_sealed : IfOk result (λ is. is ≡ false → new.seals ≡ old.seals)

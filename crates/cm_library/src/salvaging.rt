@@ -1,5 +1,5 @@
 //! A job looks at a file that is there already.
-ghost use Rattle.std.specs.Prelude.{◌≡◌, ◌≢◌, ◌≤◌, true, false, None, Some, IfOk, IfErr, OnOk, IsErrOf};
+ghost use Rattle.std.specs.Prelude.{◌≡◌, ◌≢◌, ◌≤◌, true, false, None, Some, Ok, IfOk, IfErr, IsErrOf};
 ghost use Rattle.std.specs.Option.{ForSome};
 ghost use Rattle.cm_base.specs.Causes.{Rose};
 ghost use Rattle.cm_disk.specs.Disk.{LeavesOnly};
@@ -46,7 +46,7 @@ impl<D: Disk> Library<D> {
         ensures refused { RefusesOr (salvage_fault self.old.state self.old.started job hash) result }
         ensures unchanged { IfErr result (λ fault. fault ≢ LibFault.Disk → self.new ≡ self.old) }
         ensures rows { KeepsRows self.old self.new }
-        ensures was_sealed { salvage_fault self.old.state self.old.started job hash ≡ None → seal_at self.old.seals hash ≢ None → IfOk result (λ is. is ≡ true) × OnOk result (self.new ≡ self.old) }
+        ensures was_sealed { salvage_fault self.old.state self.old.started job hash ≡ None → seal_at self.old.seals hash ≢ None → (result ≡ Ok true) × (self.new ≡ self.old) }
         ensures value { IfOk result (λ is. seal_at self.old.seals hash ≡ None → TellsPlace (D.reads self.old.disk) hash (size_in hash (job_manifest job self.old.state)) is) }
         ensures sealed { IfOk result (λ is. is ≡ true → seal_at self.old.seals hash ≡ None → ForSome (size_in hash (job_manifest job self.old.state)) (λ size. SealsIt hash size (seal_at self.old.seals) (seal_at self.new.seals))) }
         ensures not_sealed { IfOk result (λ is. is ≡ false → self.new.seals ≡ self.old.seals) }
@@ -78,8 +78,9 @@ impl<D: Disk> Library<D> {
     }
 
     /// Whether the place of a hash that an unfinished job wants has its file: that is read whole, made durable, and sealed if it is
-    /// right. A sealed hash answers true, and nothing is read. The first cause that holds is answered, and then nothing has changed:
-    /// `NoJob`, `Unwanted`, `HeldBy`. The job's own started file of this hash is given up first. It takes no memory.
+    /// right. Once the library is settled a sealed hash answers true, no device is called, and nothing has changed. The first cause
+    /// that holds is answered, and then nothing has changed: `NoJob`, `Unwanted`, `HeldBy`. The job's own started file of this hash is
+    /// given up first. It takes no memory.
     pub fn salvage(&mut self, job: JobId, hash: Hash) -> Result<bool, LibFault>
         ensures call { WorksOrStays D.reads (λ started. started) (λ mid new. Salvages D.reads job hash mid new result) self.old self.new result }
         ensures places { Told KeepsPlaces (D.reads self.old.disk) (D.reads self.new.disk) }

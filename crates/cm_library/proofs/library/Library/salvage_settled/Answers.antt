@@ -1,6 +1,6 @@
 use Rattle.std.proofs.Common.{◌≡◌, ℕ, ◌≤◌, true, List, sym, ◌∙◌, ap, subst}
 use Rattle.std.specs.Prelude.{◌≢◌, ◌==◌, ◌&&◌, cond, not, Option, None, Some, vec_capacity}
-use Rattle.std.proofs.lemmas.Option.{same_Some}
+use Rattle.std.proofs.lemmas.Option.{none-some, same_Some}
 use Rattle.cm_base.specs.declared.hash.Hash.{Hash}
 use Rattle.cm_disk.specs.Disk.{File, Files}
 use Rattle.cm_pkglib.specs.declared.counts.Seal.{Seal}
@@ -148,6 +148,17 @@ invariant_of-self-in-Err-salvage g c =
     worked d.reads d.may_leave d.moment d.left_since g.met.D.Disk.as_it_reads s.start.value s.disk s.log s.contents s.counts s.pending s.started.items (vec_capacity s.started) was c.self.view_is c.requires.settled c.self.invariant new hash others silent c.show_bytes.ensures.bytes unsealed c.leave_own.new.started.items (vec_capacity c.leave_own.new.started)
     (subst (λ (n : ℕ). 256 ≤ n) (sym c.leave_own.ensures.capacity) c.self.invariant.enough)
     (subst (λ (xs : List (ℕ × Writing)). AreStarted (d.reads new) s.contents.state (λ h. sealed_of s.counts h) None xs) (sym c.leave_own.ensures.rest) fewer)
+
+pub returns-in-Err-clause-was_sealed : goal.returns-in-Err-clause-was_sealed
+returns-in-Err-clause-was_sealed g c free_of some = absurd (none-some c.in-Err.fault (sym free_of ∙ c.in-Err.ensures.refused))
+
+pub returns-in-Err-salvage-clause-was_sealed : goal.returns-in-Err-salvage-clause-was_sealed
+returns-in-Err-salvage-clause-was_sealed g c free_of some =
+    let d = g.D.Disk in
+    let s = c.self.inside in
+    let was = c.args.self.now in
+    let unsealed : sealed_of s.counts c.args.hash ≡ None = sym c.sealed.ensures ∙ none_there c.sealed.result (sym c.if-is_some.ensures) in
+    absurd (some (unsealed_out d.reads d.may_leave d.moment d.left_since g.met.D.Disk.as_it_reads s.start.value s.disk s.log s.contents s.counts s.pending s.started.items (vec_capacity s.started) was c.self.view_is c.requires.settled c.self.invariant c.args.hash unsealed))
 
 pub returns-in-Ok-true-clause-was_sealed : goal.returns-in-Ok-true-clause-was_sealed
 returns-in-Ok-true-clause-was_sealed g c free_of some =
