@@ -1,8 +1,8 @@
 //! What calls answer, and what they leave.
-use crate::calls::{ABC, Answer, Call, EMPTY, LONGER, NONE, ONE, THREE, package};
-use crate::libraries::{empty, has, installed};
-use crate::steps::{Step, again, wrong};
 use cm_base::{Hash, Version};
+use library_cases::calls::{ABC, Answer, Call, EMPTY, LONGER, NONE, ONE, THREE, package};
+use library_cases::libraries::{empty, has, installed};
+use library_cases::steps::{Step, again, wrong};
 use std::test::Fail;
 
 // The SHA-256 of `ONE`.

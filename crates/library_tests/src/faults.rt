@@ -1,9 +1,9 @@
 //! What becomes of a call that the disk failed.
-use crate::calls::{ABC, Answer, Call, ONE, answered, is_change_of};
-use crate::cases::{BEGIN, Case, DROP, FINISH, REMOVE};
-use crate::libraries::{PREPARED, Rows, has, opened, prepared};
 use cm_disk::{Disk, MemDisk};
 use cm_library::{Change, Library};
+use library_cases::calls::{ABC, Answer, Call, ONE, answered, is_change_of};
+use library_cases::cases::{BEGIN, Case, DROP, FINISH, REMOVE};
+use library_cases::libraries::{PREPARED, has, opens_to, prepared};
 use std::alloc::Global;
 use std::test::Fail;
 
@@ -37,17 +37,6 @@ fn tried(alloc: Global, case: &Case, disk: MemDisk) -> Option<Ended> {
         return (answer == Answer::Disk && is_same).then_some(Ended::Failed(library));
     }
     (answer == case.done && has(&library, case.after)).then_some(Ended::Done)
-}
-
-/// Whether each image of a crash opens to a library with these rows.
-pub(crate) fn opens_to(alloc: Global, disk: &MemDisk, rows: Rows) -> Option<bool> {
-    for pick in 0..3u8 {
-        let library = opened(alloc, disk.crash(pick).ok()?)?;
-        if !has(&library, rows) {
-            return Some(false);
-        }
-    }
-    Some(true)
 }
 
 // What settling tells, if need be at the second try.

@@ -1,7 +1,7 @@
 //! Which hashes keep their seals, so that a job that names them can be finished.
-use crate::calls::{ABC, Answer, Call, EMPTY, HELLO, ONE, THREE, TWICE};
-use crate::libraries::{has, installed};
-use crate::steps::{Step, again, wrong};
+use library_cases::calls::{ABC, Answer, Call, EMPTY, HELLO, ONE, THREE, TWICE};
+use library_cases::libraries::{has, installed};
+use library_cases::steps::{Step, again, wrong};
 use std::test::Fail;
 
 // Neither a version nor a job names the hash any more.

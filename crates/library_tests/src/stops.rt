@@ -1,26 +1,11 @@
 //! What a crash leaves.
-use crate::calls::answered;
-use crate::cases::{BEGIN, Case, DROP, FINISH, REMOVE};
-use crate::libraries::{PREPARED, has, opened, prepared};
 use cm_disk::{MemDisk, at_each_crash};
+use library_cases::calls::answered;
+use library_cases::cases::{BEGIN, Case, DROP, FINISH, REMOVE};
+use library_cases::libraries::{PREPARED, has, opened, prepared};
+use library_cases::reached::{Reached, taken};
 use std::alloc::Global;
-use std::mem;
 use std::test::Fail;
-
-/// How far a run came.
-#[derive(Clone, Copy, PartialEq, Eq)]
-pub(crate) enum Reached {
-    // The disk failed before the case's call, or there was no memory.
-    Before,
-    Failed,
-    Done,
-}
-
-/// The disk, with an empty one in its place.
-pub(crate) fn taken(alloc: Global, disk: &mut MemDisk) -> Option<MemDisk> {
-    let other = MemDisk::new(alloc, Vec::new(alloc)).ok()?;
-    Some(mem::replace(disk, other))
-}
 
 fn ran(alloc: Global, case: &Case, disk: &mut MemDisk) -> Option<Reached> {
     let mut library = match prepared(alloc, taken(alloc, disk)?) {

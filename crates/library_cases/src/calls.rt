@@ -6,21 +6,21 @@ use cm_tree::Manifest;
 use std::alloc::Global;
 
 /// The manifest of the file `k`, which is `abc`.
-pub(crate) const ONE: &[u8] = &[
+pub const ONE: &[u8] = &[
     67, 77, 68, 76, 1, 1, 0, 0, 0, 1, 107, 3, 0, 0, 0, 186, 120, 22, 191, 143, 1, 207, 234, 65, 65,
     64, 222, 93, 174, 34, 35, 176, 3, 97, 163, 150, 23, 122, 156, 180, 16, 255, 97, 242, 0, 21,
     173,
 ];
 
 /// The same with one byte more.
-pub(crate) const LONGER: &[u8] = &[
+pub const LONGER: &[u8] = &[
     67, 77, 68, 76, 1, 1, 0, 0, 0, 1, 107, 4, 0, 0, 0, 186, 120, 22, 191, 143, 1, 207, 234, 65, 65,
     64, 222, 93, 174, 34, 35, 176, 3, 97, 163, 150, 23, 122, 156, 180, 16, 255, 97, 242, 0, 21,
     173,
 ];
 
 /// The manifest of the file `k`, which is `abc`, of `l`, which is empty, and of `m`, which is `hello`.
-pub(crate) const THREE: &[u8] = &[
+pub const THREE: &[u8] = &[
     67, 77, 68, 76, 1, 3, 0, 0, 0, 1, 107, 3, 0, 0, 0, 186, 120, 22, 191, 143, 1, 207, 234, 65, 65,
     64, 222, 93, 174, 34, 35, 176, 3, 97, 163, 150, 23, 122, 156, 180, 16, 255, 97, 242, 0, 21,
     173, 1, 108, 0, 0, 0, 0, 227, 176, 196, 66, 152, 252, 28, 20, 154, 251, 244, 200, 153, 111,
@@ -30,7 +30,7 @@ pub(crate) const THREE: &[u8] = &[
 ];
 
 /// The manifest of the files `k` and `l`, which are `abc`.
-pub(crate) const TWICE: &[u8] = &[
+pub const TWICE: &[u8] = &[
     67, 77, 68, 76, 1, 2, 0, 0, 0, 1, 107, 3, 0, 0, 0, 186, 120, 22, 191, 143, 1, 207, 234, 65, 65,
     64, 222, 93, 174, 34, 35, 176, 3, 97, 163, 150, 23, 122, 156, 180, 16, 255, 97, 242, 0, 21,
     173, 1, 108, 3, 0, 0, 0, 186, 120, 22, 191, 143, 1, 207, 234, 65, 65, 64, 222, 93, 174, 34, 35,
@@ -38,7 +38,7 @@ pub(crate) const TWICE: &[u8] = &[
 ];
 
 /// The manifest of the files `k` and `l`, which are `hello` and empty.
-pub(crate) const PAIR: &[u8] = &[
+pub const PAIR: &[u8] = &[
     67, 77, 68, 76, 1, 2, 0, 0, 0, 1, 107, 5, 0, 0, 0, 44, 242, 77, 186, 95, 176, 163, 14, 38, 232,
     59, 42, 197, 185, 226, 158, 27, 22, 30, 92, 31, 167, 66, 94, 115, 4, 51, 98, 147, 139, 152, 36,
     1, 108, 0, 0, 0, 0, 227, 176, 196, 66, 152, 252, 28, 20, 154, 251, 244, 200, 153, 111, 185, 36,
@@ -46,7 +46,7 @@ pub(crate) const PAIR: &[u8] = &[
 ];
 
 /// The manifest of the files `k` and `l` with the hash of `abc`, whose sizes are 3 and 4.
-pub(crate) const TWO_SIZES: &[u8] = &[
+pub const TWO_SIZES: &[u8] = &[
     67, 77, 68, 76, 1, 2, 0, 0, 0, 1, 107, 3, 0, 0, 0, 186, 120, 22, 191, 143, 1, 207, 234, 65, 65,
     64, 222, 93, 174, 34, 35, 176, 3, 97, 163, 150, 23, 122, 156, 180, 16, 255, 97, 242, 0, 21,
     173, 1, 108, 4, 0, 0, 0, 186, 120, 22, 191, 143, 1, 207, 234, 65, 65, 64, 222, 93, 174, 34, 35,
@@ -54,7 +54,7 @@ pub(crate) const TWO_SIZES: &[u8] = &[
 ];
 
 /// The same with 4 first.
-pub(crate) const LONGER_FIRST: &[u8] = &[
+pub const LONGER_FIRST: &[u8] = &[
     67, 77, 68, 76, 1, 2, 0, 0, 0, 1, 107, 4, 0, 0, 0, 186, 120, 22, 191, 143, 1, 207, 234, 65, 65,
     64, 222, 93, 174, 34, 35, 176, 3, 97, 163, 150, 23, 122, 156, 180, 16, 255, 97, 242, 0, 21,
     173, 1, 108, 3, 0, 0, 0, 186, 120, 22, 191, 143, 1, 207, 234, 65, 65, 64, 222, 93, 174, 34, 35,
@@ -62,41 +62,41 @@ pub(crate) const LONGER_FIRST: &[u8] = &[
 ];
 
 /// The manifest without files.
-pub(crate) const NONE: &[u8] = &[67, 77, 68, 76, 1, 0, 0, 0, 0];
+pub const NONE: &[u8] = &[67, 77, 68, 76, 1, 0, 0, 0, 0];
 
 /// The SHA-256 of `abc`.
-pub(crate) const ABC: Hash = Hash([
+pub const ABC: Hash = Hash([
     186, 120, 22, 191, 143, 1, 207, 234, 65, 65, 64, 222, 93, 174, 34, 35, 176, 3, 97, 163, 150,
     23, 122, 156, 180, 16, 255, 97, 242, 0, 21, 173,
 ]);
 
 /// The SHA-256 of no bytes.
-pub(crate) const EMPTY: Hash = Hash([
+pub const EMPTY: Hash = Hash([
     227, 176, 196, 66, 152, 252, 28, 20, 154, 251, 244, 200, 153, 111, 185, 36, 39, 174, 65, 228,
     100, 155, 147, 76, 164, 149, 153, 27, 120, 82, 184, 85,
 ]);
 
 /// The SHA-256 of `hello`.
-pub(crate) const HELLO: Hash = Hash([
+pub const HELLO: Hash = Hash([
     44, 242, 77, 186, 95, 176, 163, 14, 38, 232, 59, 42, 197, 185, 226, 158, 27, 22, 30, 92, 31,
     167, 66, 94, 115, 4, 51, 98, 147, 139, 152, 36,
 ]);
 
 /// The SHA-256 of `abd`.
-pub(crate) const OF_ABD: Hash = Hash([
+pub const OF_ABD: Hash = Hash([
     165, 45, 21, 159, 38, 43, 44, 109, 219, 114, 74, 97, 132, 11, 239, 195, 110, 179, 12, 136, 135,
     122, 64, 48, 182, 92, 190, 134, 41, 132, 73, 201,
 ]);
 
 /// The SHA-256 of `ab`.
-pub(crate) const OF_AB: Hash = Hash([
+pub const OF_AB: Hash = Hash([
     251, 142, 32, 252, 46, 76, 63, 36, 140, 96, 195, 155, 214, 82, 243, 193, 52, 114, 152, 187,
     151, 123, 139, 77, 89, 3, 184, 80, 85, 98, 6, 3,
 ]);
 
 /// A call with numbers of versions and jobs, and the bytes of a manifest or a piece.
 #[derive(Clone, Copy)]
-pub(crate) enum Call {
+pub enum Call {
     Begin(u32, &'static [u8]),
     Finish(u64),
     Drop(u64),
@@ -113,7 +113,7 @@ pub(crate) enum Call {
 
 /// What a call answers.
 #[derive(Clone, Copy, PartialEq, Eq)]
-pub(crate) enum Answer {
+pub enum Answer {
     /// The job with this number begins.
     Begun(u64),
     Done,
@@ -140,12 +140,12 @@ pub(crate) enum Answer {
 }
 
 /// The package that all calls are on.
-pub(crate) fn package() -> Option<PackageId> {
+pub fn package() -> Option<PackageId> {
     PackageId::read(b"PS100001")
 }
 
 /// The manifest that these bytes spell.
-pub(crate) fn manifest_of(alloc: Global, bytes: &[u8]) -> Option<Manifest> {
+pub fn manifest_of(alloc: Global, bytes: &[u8]) -> Option<Manifest> {
     Manifest::decode(alloc, bytes).ok()
 }
 
@@ -226,11 +226,7 @@ fn answered_file(library: &mut Library<MemDisk>, call: Call) -> Option<Answer> {
 }
 
 /// What a library answers. None where a number or the manifest is none, or there is no memory for the manifest.
-pub(crate) fn answered(
-    alloc: Global,
-    library: &mut Library<MemDisk>,
-    call: Call,
-) -> Option<Answer> {
+pub fn answered(alloc: Global, library: &mut Library<MemDisk>, call: Call) -> Option<Answer> {
     match call {
         Call::Begin(version, manifest) => {
             let manifest = manifest_of(alloc, manifest)?;
@@ -245,8 +241,22 @@ pub(crate) fn answered(
     }
 }
 
+/// A call, and its answer.
+pub type Reply = (Call, Answer);
+
+/// Whether calls are answered so, one after another.
+pub fn are_answered(alloc: Global, library: &mut Library<MemDisk>, replies: &[Reply]) -> bool {
+    for number in 0..replies.len() {
+        let (call, wanted) = replies[number];
+        if answered(alloc, library, call) != Some(wanted) {
+            return false;
+        }
+    }
+    true
+}
+
 /// Whether a change is that of a call.
-pub(crate) fn is_change_of(call: Call, told: Change) -> bool {
+pub fn is_change_of(call: Call, told: Change) -> bool {
     match (call, told) {
         (
             Call::Begin(number, manifest),

@@ -1,33 +1,23 @@
 //! What the calls on a job's files refuse, in the order of the causes.
-use crate::calls::{ABC, Answer, Call, EMPTY, HELLO, LONGER_FIRST, OF_AB, ONE, THREE, TWO_SIZES};
-use crate::libraries::{Rows, empty};
-use crate::steps::{Reply, Step, odd, wrong};
 use cm_disk::MemDisk;
 use cm_library::Library;
+use library_cases::calls::{
+    ABC, Answer, Call, EMPTY, HELLO, LONGER_FIRST, OF_AB, ONE, Reply, THREE, TWO_SIZES,
+};
+use library_cases::libraries::{BEGUN, Rows, begun_with, empty};
+use library_cases::steps::{Step, odd, wrong};
 use std::alloc::Global;
 use std::test::Fail;
 
 const JOBS: Rows = (&[(1, 1), (2, 2)], &[]);
 
-const JOB: Rows = (&[(1, 1)], &[]);
-
 // A library with job 1 for the manifest `THREE`, and job 2 for `ONE`.
 fn begun(alloc: Global) -> Option<Library<MemDisk>> {
     let mut library = empty(alloc)?;
     let steps: [Step; 2] = [
-        (Call::Begin(1, THREE), Answer::Begun(1), JOB),
+        (Call::Begin(1, THREE), Answer::Begun(1), BEGUN),
         (Call::Begin(2, ONE), Answer::Begun(2), JOBS),
     ];
-    match wrong(alloc, &mut library, &steps) {
-        Some(_) => None,
-        None => Some(library),
-    }
-}
-
-/// A library with job 1 for a manifest.
-pub(crate) fn begun_with(alloc: Global, manifest: &'static [u8]) -> Option<Library<MemDisk>> {
-    let mut library = empty(alloc)?;
-    let steps: [Step; 1] = [(Call::Begin(1, manifest), Answer::Begun(1), JOB)];
     match wrong(alloc, &mut library, &steps) {
         Some(_) => None,
         None => Some(library),
@@ -162,7 +152,7 @@ fn two_sizes(rt: HostRuntime) -> Result<(), Fail> {
         (Call::Wanted(1, None), Answer::Wants(None)),
         (Call::Finish(1), Answer::NotStored(ABC)),
     ];
-    assert!(rt; odd(rt.alloc(), &mut library, JOB, &replies).is_none());
+    assert!(rt; odd(rt.alloc(), &mut library, BEGUN, &replies).is_none());
     Ok(())
 }
 
@@ -179,12 +169,12 @@ fn two_sizes_with_the_wrong_one_first(rt: HostRuntime) -> Result<(), Fail> {
         (Call::Seal(1), Answer::WrongBytes(ABC, 4, ABC, 3)),
         (Call::Salvage(1, ABC), Answer::Is(false)),
     ];
-    assert!(rt; odd(rt.alloc(), &mut library, JOB, &replies).is_none());
+    assert!(rt; odd(rt.alloc(), &mut library, BEGUN, &replies).is_none());
     assert!(rt;
         odd(
             rt.alloc(),
             &mut library,
-            JOB,
+            BEGUN,
             &[(Call::Finish(1), Answer::NotStored(ABC))]
         )
         .is_none()

@@ -1,9 +1,9 @@
 //! Two jobs want one file.
-use crate::calls::{ABC, Answer, Call, OF_AB, OF_ABD, ONE};
-use crate::libraries::{Rows, empty, has};
-use crate::steps::{Reply, Step, again, odd, wrong};
 use cm_disk::MemDisk;
 use cm_library::Library;
+use library_cases::calls::{ABC, Answer, Call, OF_AB, OF_ABD, ONE, Reply};
+use library_cases::libraries::{Rows, empty, has};
+use library_cases::steps::{Step, again, odd, wrong};
 use std::alloc::Global;
 use std::test::Fail;
 

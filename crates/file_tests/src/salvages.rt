@@ -1,15 +1,12 @@
 //! What a job finds at the place of a file, and what it wants still.
-use crate::calls::{ABC, Answer, Call, EMPTY, HELLO, OF_ABD, ONE, THREE};
-use crate::libraries::{Rows, has, installed};
-use crate::refusals::begun_with;
-use crate::steps::{Reply, Step, again, odd, wrong};
 use cm_base::Hash;
 use cm_disk::MemDisk;
 use cm_library::Library;
+use library_cases::calls::{ABC, Answer, Call, EMPTY, HELLO, OF_ABD, ONE, Reply, THREE};
+use library_cases::libraries::{BEGUN, Rows, begun_with, has, installed};
+use library_cases::steps::{Step, again, odd, wrong};
 use std::alloc::Global;
 use std::test::Fail;
-
-const JOB: Rows = (&[(1, 1)], &[]);
 
 const VERSION: Rows = (&[], &[1]);
 
@@ -27,7 +24,7 @@ fn finds_nothing(rt: HostRuntime) -> Result<(), Fail> {
         (Call::Salvage(1, EMPTY), Answer::Is(true)),
         (Call::Finish(1), Answer::NotStored(ABC)),
     ];
-    assert!(rt; odd(rt.alloc(), &mut library, JOB, &replies).is_none());
+    assert!(rt; odd(rt.alloc(), &mut library, BEGUN, &replies).is_none());
     Ok(())
 }
 
@@ -43,12 +40,12 @@ fn finds_other_bytes(rt: HostRuntime) -> Result<(), Fail> {
         (Call::Put(1, 0, b"abd"), Answer::Done),
         (Call::Salvage(1, ABC), Answer::Is(false)),
     ];
-    assert!(rt; odd(rt.alloc(), &mut library, JOB, &replies).is_none());
+    assert!(rt; odd(rt.alloc(), &mut library, BEGUN, &replies).is_none());
     let replies: [Reply; 2] = [
         (Call::Put(1, 3, b""), Answer::NotStarted),
         (Call::Finish(1), Answer::NotStored(ABC)),
     ];
-    assert!(rt; odd(rt.alloc(), &mut library, JOB, &replies).is_none());
+    assert!(rt; odd(rt.alloc(), &mut library, BEGUN, &replies).is_none());
     Ok(())
 }
 
@@ -63,7 +60,7 @@ fn finds_the_file(rt: HostRuntime) -> Result<(), Fail> {
         (Call::Salvage(1, ABC), Answer::Is(true)),
         (Call::Salvage(1, ABC), Answer::Is(true)),
     ];
-    assert!(rt; odd(rt.alloc(), &mut library, JOB, &replies).is_none());
+    assert!(rt; odd(rt.alloc(), &mut library, BEGUN, &replies).is_none());
     let steps: [Step; 1] = [(Call::Finish(1), Answer::Done, VERSION)];
     assert!(rt; wrong(rt.alloc(), &mut library, &steps).is_none());
     assert!(rt; has(&again(rt.alloc(), library).ok_or("opened")?, VERSION));
@@ -83,14 +80,14 @@ fn gives_up_its_own(rt: HostRuntime) -> Result<(), Fail> {
         (Call::Seal(1), Answer::NotStarted),
         (Call::Start(1, ABC), Answer::Stored(ABC)),
     ];
-    assert!(rt; odd(rt.alloc(), &mut library, JOB, &replies).is_none());
+    assert!(rt; odd(rt.alloc(), &mut library, BEGUN, &replies).is_none());
     let replies: [Reply; 4] = [
         (Call::Start(1, HELLO), Answer::Done),
         (Call::Put(1, 0, b"hello"), Answer::Done),
         (Call::Salvage(1, ABC), Answer::Is(true)),
         (Call::Seal(1), Answer::Done),
     ];
-    assert!(rt; odd(rt.alloc(), &mut library, JOB, &replies).is_none());
+    assert!(rt; odd(rt.alloc(), &mut library, BEGUN, &replies).is_none());
     Ok(())
 }
 
@@ -111,9 +108,9 @@ fn wants_in_order(rt: HostRuntime) -> Result<(), Fail> {
         // A started file is still wanted.
         (Call::Start(1, HELLO), Answer::Done),
     ];
-    assert!(rt; odd(rt.alloc(), &mut library, JOB, &replies).is_none());
+    assert!(rt; odd(rt.alloc(), &mut library, BEGUN, &replies).is_none());
     let replies: [Reply; 1] = [(Call::Wanted(1, None), Answer::Wants(Some((HELLO, 5))))];
-    assert!(rt; odd(rt.alloc(), &mut library, JOB, &replies).is_none());
+    assert!(rt; odd(rt.alloc(), &mut library, BEGUN, &replies).is_none());
     Ok(())
 }
 
@@ -132,7 +129,7 @@ fn wants_what_is_not_sealed(rt: HostRuntime) -> Result<(), Fail> {
         ),
         (Call::Start(1, HELLO), Answer::Done),
     ];
-    assert!(rt; odd(rt.alloc(), &mut library, JOB, &replies).is_none());
+    assert!(rt; odd(rt.alloc(), &mut library, BEGUN, &replies).is_none());
     let replies: [Reply; 6] = [
         (Call::Put(1, 0, b"hello"), Answer::Done),
         (Call::Seal(1), Answer::Done),
@@ -141,7 +138,7 @@ fn wants_what_is_not_sealed(rt: HostRuntime) -> Result<(), Fail> {
         (Call::Seal(1), Answer::Done),
         (Call::Wanted(1, None), Answer::Wants(None)),
     ];
-    assert!(rt; odd(rt.alloc(), &mut library, JOB, &replies).is_none());
+    assert!(rt; odd(rt.alloc(), &mut library, BEGUN, &replies).is_none());
     let steps: [Step; 1] = [(Call::Finish(1), Answer::Done, VERSION)];
     assert!(rt; wrong(rt.alloc(), &mut library, &steps).is_none());
     Ok(())
@@ -159,7 +156,7 @@ fn closed(alloc: Global) -> Option<Library<MemDisk>> {
         (Call::Start(1, HELLO), Answer::Done),
         (Call::Put(1, 0, b"hel"), Answer::Done),
     ];
-    match odd(alloc, &mut library, JOB, &replies) {
+    match odd(alloc, &mut library, BEGUN, &replies) {
         Some(_) => None,
         None => again(alloc, library),
     }
@@ -178,7 +175,7 @@ fn finds_what_was_sealed(rt: HostRuntime) -> Result<(), Fail> {
         (Call::Salvage(1, ABC), Answer::Is(true)),
         (Call::Wanted(1, Some(ABC)), Answer::Wants(Some((EMPTY, 0)))),
     ];
-    assert!(rt; odd(rt.alloc(), &mut library, JOB, &replies).is_none());
+    assert!(rt; odd(rt.alloc(), &mut library, BEGUN, &replies).is_none());
     let replies: [Reply; 5] = [
         (Call::Salvage(1, EMPTY), Answer::Is(true)),
         (Call::Finish(1), Answer::NotStored(HELLO)),
@@ -186,7 +183,7 @@ fn finds_what_was_sealed(rt: HostRuntime) -> Result<(), Fail> {
         (Call::Put(1, 0, b"hello"), Answer::Done),
         (Call::Seal(1), Answer::Done),
     ];
-    assert!(rt; odd(rt.alloc(), &mut library, JOB, &replies).is_none());
+    assert!(rt; odd(rt.alloc(), &mut library, BEGUN, &replies).is_none());
     let steps: [Step; 1] = [(Call::Finish(1), Answer::Done, VERSION)];
     assert!(rt; wrong(rt.alloc(), &mut library, &steps).is_none());
     assert!(rt; has(&again(rt.alloc(), library).ok_or("opened")?, VERSION));

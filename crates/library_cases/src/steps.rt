@@ -1,19 +1,15 @@
 //! Calls one after another.
-use crate::calls::{Answer, Call, answered};
+use crate::calls::{Answer, Call, Reply, answered};
 use crate::libraries::{Rows, has, opened};
 use cm_disk::MemDisk;
 use cm_library::Library;
 use std::alloc::Global;
 
 /// A call, its answer, and the rows after it.
-pub(crate) type Step = (Call, Answer, Rows);
+pub type Step = (Call, Answer, Rows);
 
 /// The number of the first step that goes otherwise.
-pub(crate) fn wrong(
-    alloc: Global,
-    library: &mut Library<MemDisk>,
-    steps: &[Step],
-) -> Option<usize> {
+pub fn wrong(alloc: Global, library: &mut Library<MemDisk>, steps: &[Step]) -> Option<usize> {
     for number in 0..steps.len() {
         let (call, wanted, rows) = steps[number];
         if answered(alloc, library, call) != Some(wanted) || !has(library, rows) {
@@ -23,11 +19,8 @@ pub(crate) fn wrong(
     None
 }
 
-/// A call, and its answer.
-pub(crate) type Reply = (Call, Answer);
-
 /// The number of the first call that goes otherwise, where the rows stay these.
-pub(crate) fn odd(
+pub fn odd(
     alloc: Global,
     library: &mut Library<MemDisk>,
     rows: Rows,
@@ -43,6 +36,6 @@ pub(crate) fn odd(
 }
 
 /// The library of the same disk, opened again.
-pub(crate) fn again(alloc: Global, library: Library<MemDisk>) -> Option<Library<MemDisk>> {
+pub fn again(alloc: Global, library: Library<MemDisk>) -> Option<Library<MemDisk>> {
     opened(alloc, library.close())
 }

@@ -1,0 +1,9 @@
+//! The files of a library's jobs, where the disk fails the calls on them.
+//!
+//! The tests of a crate stand in a crate of their own, since a crate with tests is proved twice.
+#![tactic(auto)]
+
+#[cfg(test)]
+mod faults;
+#[cfg(test)]
+mod unsettled;
