@@ -381,6 +381,56 @@ fn a_failed_append_is_settled(rt: HostRuntime) -> Result<(), Fail> {
 }
 
 #[test]
+fn reads_after_a_failed_create(rt: HostRuntime) -> Result<(), Fail> {
+    let shelf = Shelf::Site;
+    let mut calls = 0;
+    // Until a run meets no failing call.
+    for at in 0..1000 {
+        let mut fail = Vec::new(rt.alloc());
+        fail.push(at)?;
+        let mut disk = MemDisk::new(rt.alloc(), fail)?;
+        let made = create(&mut disk, shelf);
+        calls = at;
+        if made == Ok(()) {
+            break;
+        }
+        assert_eq!(rt; made, Err(CreateFault::Disk), "at {at}");
+        // No log until `ready` is made, and then a whole new one.
+        let found = records(&mut disk, shelf, &[]);
+        if at < 9 {
+            assert!(rt; found == Err(LogFault::NoLibrary), "at {at}");
+        } else {
+            assert!(rt; found == Ok(0), "at {at}");
+        }
+    }
+    assert_eq!(rt; calls, 11);
+    Ok(())
+}
+
+#[test]
+fn reads_after_a_failed_create_beside_a_log(rt: HostRuntime) -> Result<(), Fail> {
+    let shelf = Shelf::Site;
+    let mut calls = 0;
+    for at in 0..1000 {
+        // 11 calls make the log, and 11 add a record.
+        let mut fail = Vec::new(rt.alloc());
+        fail.push(22 + at)?;
+        let mut disk = MemDisk::new(rt.alloc(), fail)?;
+        assert_eq!(rt; create(&mut disk, shelf), Ok(()));
+        assert_eq!(rt; add(&mut disk, shelf, b"body"), Some(Ok(0)));
+        let again = create(&mut disk, shelf);
+        calls = at;
+        if again == Err(CreateFault::AlreadyThere) {
+            break;
+        }
+        assert_eq!(rt; again, Err(CreateFault::Disk), "at {at}");
+        assert!(rt; records(&mut disk, shelf, &[b"body"]) == Ok(1), "at {at}");
+    }
+    assert_eq!(rt; calls, 4);
+    Ok(())
+}
+
+#[test]
 fn a_second_create(rt: HostRuntime) -> Result<(), Fail> {
     let shelf = Shelf::PkgLib;
     // The first one fails as it makes `ready`, cuts it or syncs it; the second one stops at each of its calls.
