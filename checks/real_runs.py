@@ -71,6 +71,11 @@ def done(job):
     return b"\x02" + struct.pack("<Q", job)
 
 
+def dropped(job):
+    """The body of the record that a job was dropped."""
+    return b"\x03" + struct.pack("<Q", job)
+
+
 def log_with(bodies):
     text = bytes.fromhex("01 01 0100000000000000")
     for body in bodies:

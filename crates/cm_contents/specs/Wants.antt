@@ -13,6 +13,7 @@ use Rattle.cm_disk.specs.Disk.{is_above}
 use Rattle.cm_pkglib.specs.Counts.{hash_cmp}
 use Rattle.cm_pkglib.specs.declared.counts.Seal.{Seal}
 use Rattle.cm_tree.specs.declared.entry.Entry.{Entry}
+use Rattle.cm_contents.specs.Seals.{is_stored}
 use Rattle.cm_contents.specs.declared.wants.Wants.{Wants}
 
 -- the size of the first entry of a manifest that has this hash
@@ -61,3 +62,12 @@ pub record IsLeastWanted (seals : Hash → Option Seal) (manifest : List Entry) 
 abbrev pub IsNextWanted : (Hash → Option Seal) → List Entry → Option Hash → Option (Hash × ℕ) → Type 0
 IsNextWanted seals manifest after None = AllByRecursion (λ (entry : Entry). is_wanted seals after entry ≡ false) manifest
 IsNextWanted seals manifest after (Some next) = IsLeastWanted seals manifest after next.0 next.1
+
+-- an entry's size is that of the first entry of its hash, and the one with which the hash is sealed if it is
+pub record HasOneSize (seals : Hash → Option Seal) (manifest : List Entry) (entry : Entry) : Type 0 where
+  pub first : size_in entry.hash manifest ≡ Some entry.size
+  pub sealed : (seals entry.hash ≡ None) ⊎ (is_stored seals entry ≡ true)
+
+-- each hash has one size, among the entries and where it is sealed
+abbrev pub HaveOneSize : (Hash → Option Seal) → List Entry → Type 0
+HaveOneSize seals manifest = AllByRecursion (HasOneSize seals manifest) manifest

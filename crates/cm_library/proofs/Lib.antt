@@ -3,15 +3,13 @@ pub mod EndChanges
 pub mod FileAt
 pub mod FileCalls
 pub mod FilesWritten
-pub mod FilledJob
 pub mod Keeps
 pub mod KeptPlaces
 pub mod ManifestStored
 pub mod MapKept
+pub mod NamedSealed
 pub mod Naming
-pub mod PutSoFar
 pub mod Refused
 pub mod SettledCalls
 pub mod StartedFiles
-pub mod StoredTree
 pub mod Sure

@@ -6,4 +6,3 @@ pub mod Loads
 pub mod Opening
 pub mod Placing
 pub mod Started
-pub mod Storing

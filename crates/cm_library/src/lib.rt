@@ -1,7 +1,6 @@
 //! The library of one server: the versions of packages, each with its manifest and its files, on a disk.
 #![tactic(auto)]
 
-mod adding;
 mod beginning;
 mod commits;
 mod ending;
@@ -17,7 +16,6 @@ mod sealing;
 mod settling;
 mod started;
 mod starting;
-mod storing;
 mod telling;
 mod wanting;
 

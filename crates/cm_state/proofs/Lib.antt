@@ -20,7 +20,5 @@ pub mod Sounds
 pub mod Standing
 pub mod Steps
 pub mod Storing
-pub mod TreeLaw
-pub mod Unopened
 pub mod WholeAtOpening
 pub mod WholeTrees

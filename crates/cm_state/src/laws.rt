@@ -17,7 +17,7 @@ ghost use Rattle.cm_state.specs.Sure.{AreManifestsSure, AreVersionsSure};
 ghost use Rattle.cm_state.specs.Needs.{NeedsAreEnough};
 ghost use Rattle.cm_state.specs.Opens.{OpensToOne, Opens, OpensOr, EachOpens, EachOpensSome, Stands};
 ghost use Rattle.cm_state.specs.Steps.{EachImageIsPrefixed};
-ghost use Rattle.cm_state.specs.Whole.{AddsWholeTree, TreesAreWhole, TreesOpen};
+ghost use Rattle.cm_state.specs.Whole.{TreesAreWhole, TreesOpen};
 
 use cm_disk::Disk;
 use cm_log::Log;
@@ -46,11 +46,6 @@ pub fn trees_are_whole()
 /// Files that have whole trees open to their manifests.
 pub fn a_tree_opens()
     ensures { TreesOpen }
-{}
-
-/// Adding a tree as a version keeps each version's tree whole, unless two byte strings have one hash and differ.
-pub fn adding_keeps_trees_whole()
-    ensures { AddsWholeTree }
 {}
 
 /// Whatever a crash leaves of a library at rest opens to its state, where the manifests that the state needs and the files of its

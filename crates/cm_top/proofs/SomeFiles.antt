@@ -1,12 +1,16 @@
--- There are always files that agree with what a folder shows, and a place of a gate that agrees with what a disk tells.
-use Rattle.std.proofs.Common.{◌≡◌, ℕ, ◌+◌, zero, suc, List, [], ◌∷◌, Option, None, Some, slice_get, refl, sym, ◌∙◌, ap, subst, arith}
+-- There are always readings that agree with what a folder shows, a place of a gate that agrees with what a disk tells, and a library that
+-- it reads as.
+use Rattle.std.proofs.Common.{◌≡◌, ℕ, ◌+◌, zero, suc, List, [], ◌∷◌, Option, None, Some, slice_get, sym, ◌∙◌, ap, subst, arith, refl}
 use Rattle.std.specs.Option.{ForSome}
 use Rattle.std.proofs.lemmas.Option.{none-some, same_Some}
 use Rattle.cm_disk.specs.Disk.{Files}
-use Rattle.cm_state.specs.Look.{gate_in}
-use Rattle.cm_top.specs.Machine.{Given}
+use Rattle.cm_intake.specs.Readings.{Readings, AreReadings}
+use Rattle.cm_state.specs.Becomes.{IsLibrary}
+use Rattle.cm_state.specs.Look.{Library, Missing, look, gate_in}
 use Rattle.cm_tree.specs.Folders.{Shown, Agrees}
 use Rattle.cm_tree.specs.Trees.{File, file_paths}
+use Rattle.cm_top.specs.Machine.{Given}
+use Rattle.cm_top.specs.Runs.{Sourced, Starts}
 
 abbrev or_none : Option (List ℕ) → List ℕ
 or_none None = []
@@ -43,21 +47,36 @@ some_agree shown = record {
   bytes = λ k file is bytes told. bytes_from 0 shown.now shown.paths k file is bytes (subst (λ (i : ℕ). shown.now i ≡ Some bytes) (omega arith) told);
 }
 
+some_readings : Shown → Readings
+some_readings shown = record { first = Some (some_files shown); second = Some (λ (k : ℕ). or_none (shown.later k)) }
+
+some_are : (shown : Shown) (from to : ℕ) → AreReadings shown from to (some_readings shown)
+unfolding some_readings
+some_are shown from to = record {
+  first = some_agree shown;
+  second = λ k within bytes told. or_none_told (shown.later k) bytes told;
+  first_failed = λ failed. absurd (cc);
+  second_failed = λ failed. absurd (cc);
+}
+
 abbrev gate_or : Option Files → ℕ
 gate_or None = 0
 gate_or (Some files) = gate_in files
 
-pub some_given : Shown → Option Files → Given
-some_given shown old = record { files = some_files shown; gate = gate_or old }
-
-pub given_agrees : (shown : Shown) (old : Option Files) → Agrees shown (some_given shown old).files
-unfolding some_given
-given_agrees shown old = some_agree shown
-
-gate_told : (old : Option Files) → ForSome old (λ files. gate_in files ≡ gate_or old)
+gate_told : (reads : Option Files) → ForSome reads (λ files. gate_in files ≡ gate_or reads)
 gate_told None files told = absurd (none-some files told)
 gate_told (Some was) files told = sym (ap gate_in (same_Some was files told))
 
-pub given_gate : (shown : Shown) (old : Option Files) → ForSome old (λ files. gate_in files ≡ (some_given shown old).gate)
+-- what a step may be given, where a folder shows this and a disk reads so
+pub some_given : Shown → Option Files → Given
+some_given shown reads = record { readings = some_readings shown; gate = gate_or reads }
+
+-- a step may start from it, on the library that the disk reads as
+pub starts : (from to : Sourced) (reads : Option Files) (library : Library) → IsLibrary reads library → Starts from to reads (some_given from.shown reads) library
 unfolding some_given
-given_gate shown old = gate_told old
+starts from to reads library is = record { readings = some_are from.shown from.faults to.faults; gate = gate_told reads; library_is = is }
+
+-- what the disk reads as is some library
+abbrev pub some_library : (reads : Option Files) → (library : Library) × IsLibrary reads library
+some_library None = (Missing, λ files told. absurd (none-some files told))
+some_library (Some files) = (look files, λ other told. ap look (sym (same_Some files other told)))

@@ -1,17 +1,21 @@
 -- What each status of a run tells.
-use Rattle.std.proofs.Common.{◌≡◌, ◌≢◌, ◌⊎◌, ℕ, List, Result, Ok, Err, inl, inr, refl, subst, arith}
+use Rattle.std.proofs.Common.{◌≡◌, ◌≢◌, ◌⊎◌, ℕ, List, [], ◌∷◌, Option, Result, Ok, Err, inl, inr, refl, subst, arith}
 use Rattle.cm_base.specs.Causes.{Rose}
-use Rattle.cm_top.specs.Bays.{Seen, faults_of}
-use Rattle.cm_top.specs.Causes.{HasCauses}
+use Rattle.cm_base.specs.declared.hash.Hash.{Hash}
+use Rattle.cm_disk.specs.Disk.{File, Files}
+use Rattle.cm_top.specs.Bays.{OnSite}
+use Rattle.cm_top.specs.Causes.{HasCauses, TellsChange}
 use Rattle.cm_top.specs.Texts.{usage_status, reply_status}
-use Rattle.cm_top.specs.Runs.{Sunk, Sourced, Prints, Ends, RunMeets}
+use Rattle.cm_top.specs.Runs.{Sunk, Sourced, Prints, Steps, EndsOn, RunMeets, step}
 use Rattle.cm_top.specs.Words.{read_line}
+use Rattle.cm_top.specs.declared.bay.Bay.{Bay}
 use Rattle.cm_top.specs.declared.fault.WordsFault.{WordsFault}
 use Rattle.cm_top.specs.declared.fault.WordsFault.TheVariants.{NoCommand, UnknownCommand, BadValue, MissingWord, ExtraWord, Memory as NoMemory}
 use Rattle.cm_top.specs.declared.reply.Reply.{Reply}
-use Rattle.cm_top.specs.declared.reply.Reply.TheVariants.{Made, Added, Versions, Refused, Source, Disk, Memory, NoLibrary, Unreadable}
+use Rattle.cm_top.specs.declared.reply.Reply.TheVariants.{Made, Added, Dropped, Changed, Versions, Refused, Source, Disk, Memory, NoLibrary, Unreadable}
 use Rattle.cm_top.specs.declared.reply.Ended.TheVariants.{Usage, Replied}
 use Rattle.cm_top.specs.declared.line.Line.{Line}
+use Rattle.cm_top.proofs.Sources.{step_failed, folder_rose}
 
 -- the status of a usage line is 2, or 6 for want of memory
 usage_statuses : (fault : WordsFault) → (usage_status fault ≡ 2) ⊎ (usage_status fault ≡ 6)
@@ -24,51 +28,49 @@ usage_statuses NoMemory = inr refl
 
 not_reply_2 : (reply : Reply) → 2 ≡ reply_status reply → ⊥
 not_reply_2 (Made count) e = omega arith
-not_reply_2 (Added id version files bytes) e = omega arith
-not_reply_2 (Versions versions jobs) e = omega arith
-not_reply_2 (Refused refusal) e = omega arith
-not_reply_2 Source e = omega arith
-not_reply_2 (Disk bay) e = omega arith
-not_reply_2 Memory e = omega arith
-not_reply_2 (NoLibrary bay) e = omega arith
-not_reply_2 (Unreadable bay place at) e = omega arith
+not_reply_2 reply e = omega arith
 
 not_reply_4 : (reply : Reply) → 4 ≡ reply_status reply → ⊥
 not_reply_4 (Made count) e = omega arith
-not_reply_4 (Added id version files bytes) e = omega arith
-not_reply_4 (Versions versions jobs) e = omega arith
-not_reply_4 (Refused refusal) e = omega arith
-not_reply_4 Source e = omega arith
-not_reply_4 (Disk bay) e = omega arith
-not_reply_4 Memory e = omega arith
-not_reply_4 (NoLibrary bay) e = omega arith
-not_reply_4 (Unreadable bay place at) e = omega arith
+not_reply_4 reply e = omega arith
 
--- status 3 is that of a folder, which failed
-ends_3 : (line : Line) (from to : Sourced) (old new : List Seen) (reply : Reply) → 3 ≡ reply_status reply → Ends line from to old new reply → Rose from.faults to.faults
-ends_3 line from to old new (Made count) e ends = absurd (omega arith)
-ends_3 line from to old new (Added id version files bytes) e ends = absurd (omega arith)
-ends_3 line from to old new (Versions versions jobs) e ends = absurd (omega arith)
-ends_3 line from to old new (Refused refusal) e ends = absurd (omega arith)
-ends_3 line from to old new Source e ends = ends.0
-ends_3 line from to old new (Disk bay) e ends = absurd (omega arith)
-ends_3 line from to old new Memory e ends = absurd (omega arith)
-ends_3 line from to old new (NoLibrary bay) e ends = absurd (omega arith)
-ends_3 line from to old new (Unreadable bay place at) e ends = absurd (omega arith)
+-- what follows of the site's disk alone
+on_site : {D : Type 0} (P : D → D → Type 0) (Q : Type 0) → ((a b : D) → P a b → Q) → (old new : List (Bay D)) → OnSite P old new → Q
+on_site P Q then [] [] on = absurd on
+on_site P Q then [] (bay ∷ new) on = absurd on
+on_site P Q then (old ∷ []) [] on = absurd on
+on_site P Q then (old ∷ []) (new ∷ []) on = then old.disk new.disk on.2
+on_site P Q then (old ∷ []) (new ∷ next ∷ bays) on = absurd on
+on_site P Q then (old ∷ next ∷ bays) new on = absurd on
 
--- status 5 is that of a disk, which failed
-ends_5 : (line : Line) (from to : Sourced) (old new : List Seen) (reply : Reply) → 5 ≡ reply_status reply → Ends line from to old new reply → (bay : List ℕ) × Rose (faults_of bay old) (faults_of bay new)
-ends_5 line from to old new (Made count) e ends = absurd (omega arith)
-ends_5 line from to old new (Added id version files bytes) e ends = absurd (omega arith)
-ends_5 line from to old new (Versions versions jobs) e ends = absurd (omega arith)
-ends_5 line from to old new (Refused refusal) e ends = absurd (omega arith)
-ends_5 line from to old new Source e ends = absurd (omega arith)
-ends_5 line from to old new (Disk bay) e ends = (bay, ends)
-ends_5 line from to old new Memory e ends = absurd (omega arith)
-ends_5 line from to old new (NoLibrary bay) e ends = absurd (omega arith)
-ends_5 line from to old new (Unreadable bay place at) e ends = absurd (omega arith)
+-- what follows on the site
+on_site_too : {D : Type 0} (P Q : D → D → Type 0) → ((a b : D) → P a b → Q a b) → (old new : List (Bay D)) → OnSite P old new → OnSite Q old new
+on_site_too P Q then [] [] on = absurd on
+on_site_too P Q then [] (bay ∷ new) on = absurd on
+on_site_too P Q then (old ∷ []) [] on = absurd on
+on_site_too P Q then (old ∷ []) (new ∷ []) on = (on.0, on.1, then old.disk new.disk on.2)
+on_site_too P Q then (old ∷ []) (new ∷ next ∷ bays) on = absurd on
+on_site_too P Q then (old ∷ next ∷ bays) new on = absurd on
 
-module _ (words : List (List ℕ)) (from to : Sourced) (old new : List Seen) (out out' : Sunk) where
+module _ {D : Type 0} (reads : D → Option Files) (may_leave : D → List ℕ → File → Type 0) (moment : D → ℕ) (left_since : D → ℕ → Files → Type 0) (faults : D → ℕ) (words : List (List ℕ)) (from to : Sourced) (old new : List (Bay D)) (out out' : Sunk) where
+  -- the reply of a folder that failed
+  source_rose : (line : Line) (a b : D) → Steps reads may_leave moment left_since (step line) from to a b Source → Rose from.faults to.faults
+  source_rose line a b steps = folder_rose from to steps.given steps.starts.readings (step_failed line steps.given steps.library steps.replies)
+
+  -- status 3 is that of a folder, which failed, or of which a file was changed
+  ends_3 : (line : Line) → read_line words ≡ Ok line → (reply : Reply) → 3 ≡ reply_status reply → OnSite (EndsOn reads may_leave moment left_since faults (step line) from to reply) old new
+      → Rose from.faults to.faults ⊎ TellsChange reads may_leave moment left_since words from to old new
+  ends_3 line is Source e ends =
+      inl (on_site (λ (a b : D). Steps reads may_leave moment left_since (step line) from to a b Source) (Rose from.faults to.faults) (source_rose line) old new ends)
+  ends_3 line is (Changed path first first_size second second_size) e ends =
+      inr (record { line = line; read = is; path = path; first = first; first_size = first_size; second = second; second_size = second_size; steps = ends })
+  ends_3 line is reply e ends = absurd (omega arith)
+
+  -- status 5 is that of a disk, which failed
+  ends_5 : (line : Line) (reply : Reply) → 5 ≡ reply_status reply → OnSite (EndsOn reads may_leave moment left_since faults (step line) from to reply) old new → OnSite (λ (a b : D). Rose (faults a) (faults b)) old new
+  ends_5 line (Disk bay) e ends = on_site_too (EndsOn reads may_leave moment left_since faults (step line) from to (Disk bay)) (λ (a b : D). Rose (faults a) (faults b)) (λ a b failed. failed.1) old new ends
+  ends_5 line reply e ends = absurd (omega arith)
+
   -- a usage line or want of memory ends by status 2, 4 or 6
   usage_ends : (fault : WordsFault) (n : ℕ) → n ≢ 2 → n ≢ 4 → n ≢ 6 → Prints (Usage fault) out out' n ⊎ Prints (Replied Memory) out out' n → ⊥
   usage_ends fault n a b c (inl (inl all)) = by (usage_statuses fault)
@@ -81,13 +83,19 @@ module _ (words : List (List ℕ)) (from to : Sourced) (old new : List Seen) (ou
   usage_ends fault n a b c (inr (inr front)) = omega (arith, front.status)
 
   -- a reply whose status isn't 4 was printed whole
-  whole : (reply : Reply) (n : ℕ) → n ≢ 4 → Prints (Replied reply) out out' n → n ≡ reply_status reply
-  whole reply n ne (inl all) = all.status
-  whole reply n ne (inr front) = absurd (ne front.status)
+  whole : (reply : Reply) (n : ℕ) → n ≢ 4 → n ≢ 6 → Prints (Replied reply) out out' n ⊎ Prints (Replied Memory) out out' n → n ≡ reply_status reply
+  whole reply n a b (inl (inl all)) = all.status
+  whole reply n a b (inl (inr front)) = absurd (a front.status)
+  whole reply n a b (inr (inl all)) = absurd (b all.status)
+  whole reply n a b (inr (inr front)) = absurd (a front.status)
 
   rose_4 : (reply : Reply) → Prints (Replied reply) out out' 4 → Rose out.faults out'.faults
   rose_4 reply (inl all) = absurd (not_reply_4 reply all.status)
   rose_4 reply (inr front) = front.rose
+
+  either_4 : (reply : Reply) → Prints (Replied reply) out out' 4 ⊎ Prints (Replied Memory) out out' 4 → Rose out.faults out'.faults
+  either_4 reply (inl prints) = rose_4 reply prints
+  either_4 reply (inr memory) = rose_4 Memory memory
 
   usage_4 : (fault : WordsFault) → Prints (Usage fault) out out' 4 ⊎ Prints (Replied Memory) out out' 4 → Rose out.faults out'.faults
   usage_4 fault (inl (inl all)) = by (usage_statuses fault)
@@ -98,38 +106,67 @@ module _ (words : List (List ℕ)) (from to : Sourced) (old new : List Seen) (ou
   usage_4 fault (inl (inr front)) = front.rose
   usage_4 fault (inr memory) = rose_4 Memory memory
 
-  at_2 : RunMeets words from to old new out out' 2 → (fault : WordsFault) × (read_line words ≡ Err fault)
+  memory_ends : (n : ℕ) → n ≢ 4 → n ≢ 6 → Prints (Replied Memory) out out' n → ⊥
+  memory_ends n a b (inl all) = b all.status
+  memory_ends n a b (inr front) = a front.status
+
+  -- how a line ends, or there is no memory to read it
+  abbrev EndsBy : Line → ℕ → Type 0
+  EndsBy line n =
+      ((reply : Reply) × OnSite (EndsOn reads may_leave moment left_since faults (step line) from to reply) old new × (Prints (Replied reply) out out' n ⊎ Prints (Replied Memory) out out' n))
+      ⊎ ((new ≡ old) × Prints (Replied Memory) out out' n)
+
+  line_2 : (line : Line) → EndsBy line 2 → ⊥
+  line_2 line (inl (reply, ends, prints)) = not_reply_2 reply (whole reply 2 (omega arith) (omega arith) prints)
+  line_2 line (inr (same, prints)) = memory_ends 2 (omega arith) (omega arith) prints
+
+  line_3 : (line : Line) → read_line words ≡ Ok line → EndsBy line 3 → Rose from.faults to.faults ⊎ TellsChange reads may_leave moment left_since words from to old new
+  line_3 line is (inl (reply, ends, prints)) = ends_3 line is reply (whole reply 3 (omega arith) (omega arith) prints) ends
+  line_3 line is (inr (same, prints)) = absurd (memory_ends 3 (omega arith) (omega arith) prints)
+
+  line_4 : (line : Line) → EndsBy line 4 → Rose out.faults out'.faults
+  line_4 line (inl (reply, ends, prints)) = either_4 reply prints
+  line_4 line (inr (same, prints)) = rose_4 Memory prints
+
+  line_5 : (line : Line) → EndsBy line 5 → OnSite (λ (a b : D). Rose (faults a) (faults b)) old new
+  line_5 line (inl (reply, ends, prints)) = ends_5 line reply (whole reply 5 (omega arith) (omega arith) prints) ends
+  line_5 line (inr (same, prints)) = absurd (memory_ends 5 (omega arith) (omega arith) prints)
+
+  abbrev Meets : ℕ → Type 0
+  Meets n = RunMeets reads may_leave moment left_since faults words from to old new out out' n
+
+  at_2 : Meets 2 → (fault : WordsFault) × (read_line words ≡ Err fault)
   at_2 meets = by (read_line words) refl
     where
       by : (r : Result Line WordsFault) → read_line words ≡ r → (fault : WordsFault) × (read_line words ≡ Err fault)
-      by (Ok line) is = let done = meets.read line is in absurd (not_reply_2 done.0 (whole done.0 2 (omega arith) done.2))
+      by (Ok line) is = absurd (line_2 line (meets.read line is))
       by (Err fault) is = (fault, is)
 
-  at_3 : RunMeets words from to old new out out' 3 → Rose from.faults to.faults
+  at_3 : Meets 3 → Rose from.faults to.faults ⊎ TellsChange reads may_leave moment left_since words from to old new
   at_3 meets = by (read_line words) refl
     where
-      by : (r : Result Line WordsFault) → read_line words ≡ r → Rose from.faults to.faults
-      by (Ok line) is = let done = meets.read line is in ends_3 line from to old new done.0 (whole done.0 3 (omega arith) done.2) done.1
+      by : (r : Result Line WordsFault) → read_line words ≡ r → Rose from.faults to.faults ⊎ TellsChange reads may_leave moment left_since words from to old new
+      by (Ok line) is = line_3 line is (meets.read line is)
       by (Err fault) is = absurd (usage_ends fault 3 (omega arith) (omega arith) (omega arith) (meets.refused fault is).1)
 
-  at_4 : RunMeets words from to old new out out' 4 → Rose out.faults out'.faults
+  at_4 : Meets 4 → Rose out.faults out'.faults
   at_4 meets = by (read_line words) refl
     where
       by : (r : Result Line WordsFault) → read_line words ≡ r → Rose out.faults out'.faults
-      by (Ok line) is = let done = meets.read line is in rose_4 done.0 done.2
+      by (Ok line) is = line_4 line (meets.read line is)
       by (Err fault) is = usage_4 fault (meets.refused fault is).1
 
-  at_5 : RunMeets words from to old new out out' 5 → (bay : List ℕ) × Rose (faults_of bay old) (faults_of bay new)
+  at_5 : Meets 5 → OnSite (λ (a b : D). Rose (faults a) (faults b)) old new
   at_5 meets = by (read_line words) refl
     where
-      by : (r : Result Line WordsFault) → read_line words ≡ r → (bay : List ℕ) × Rose (faults_of bay old) (faults_of bay new)
-      by (Ok line) is = let done = meets.read line is in ends_5 line from to old new done.0 (whole done.0 5 (omega arith) done.2) done.1
+      by : (r : Result Line WordsFault) → read_line words ≡ r → OnSite (λ (a b : D). Rose (faults a) (faults b)) old new
+      by (Ok line) is = line_5 line (meets.read line is)
       by (Err fault) is = absurd (usage_ends fault 5 (omega arith) (omega arith) (omega arith) (meets.refused fault is).1)
 
-  pub causes : (result : ℕ) → RunMeets words from to old new out out' result → HasCauses words from to old new out out' result
+  pub causes : (result : ℕ) → Meets result → HasCauses reads may_leave moment left_since faults words from to old new out out' result
   causes result meets = record {
-    two = λ is. at_2 (subst (λ (n : ℕ). RunMeets words from to old new out out' n) is meets);
-    three = λ is. at_3 (subst (λ (n : ℕ). RunMeets words from to old new out out' n) is meets);
-    four = λ is. at_4 (subst (λ (n : ℕ). RunMeets words from to old new out out' n) is meets);
-    five = λ is. at_5 (subst (λ (n : ℕ). RunMeets words from to old new out out' n) is meets);
+    two = λ is. at_2 (subst Meets is meets);
+    three = λ is. at_3 (subst Meets is meets);
+    four = λ is. at_4 (subst Meets is meets);
+    five = λ is. at_5 (subst Meets is meets);
   }

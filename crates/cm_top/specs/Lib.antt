@@ -1,6 +1,8 @@
 pub mod Bays
 pub mod Causes
 pub mod Machine
+pub mod Numbers
+pub mod Opened
 pub mod Openings
 pub mod Runs
 pub mod Texts

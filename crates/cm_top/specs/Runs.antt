@@ -1,24 +1,29 @@
 -- What a run does.
-use Rattle.std.specs.Prelude.{◌≡◌, ◌⊎◌, ℕ, List, Option, Ok, Err}
+use Rattle.std.specs.Prelude.{◌≡◌, ◌⊎◌, ℕ, ◌+◌, ◌≤◌, List, Option, Ok, Err}
 use Rattle.std.specs.Option.{ForSome}
 use Rattle.cm_base.specs.Causes.{Rose}
 use Rattle.cm_base.specs.Streams.{Gets, GetsFront}
-use Rattle.cm_disk.specs.Disk.{Files}
+use Rattle.cm_disk.specs.Disk.{File, Files, IsImage, LeavesOnly}
+use Rattle.cm_intake.specs.Readings.{AreReadings}
+use Rattle.cm_library.specs.Placing.{KeepsPlaces}
+use Rattle.cm_state.specs.Adding.{Told}
 use Rattle.cm_state.specs.Becomes.{IsLibrary, Becomes}
 use Rattle.cm_state.specs.Look.{Library, gate_in}
-use Rattle.cm_tree.specs.Folders.{Shown, Agrees}
-use Rattle.cm_top.specs.Bays.{Seen, site, reads_of, faults_of, SameBut}
-use Rattle.cm_top.specs.Machine.{Given, Step, step_init, step_add, step_list}
+use Rattle.cm_state.specs.Opens.{EachOpensSome}
+use Rattle.cm_tree.specs.Folders.{Shown}
+use Rattle.cm_top.specs.Bays.{site, OnSite}
+use Rattle.cm_top.specs.Machine.{Given, Step, step_init, step_add, step_update, step_drop, step_list}
 use Rattle.cm_top.specs.Texts.{text, status}
 use Rattle.cm_top.specs.Words.{read_line}
-use Rattle.cm_top.specs.Worlds.{OpensOn}
+use Rattle.cm_top.specs.Worlds.{Deed, Nothing, NewLibrary, Commits, steps_of, after, OpensTo, LeavesBy}
+use Rattle.cm_top.specs.declared.bay.Bay.{Bay}
 use Rattle.cm_top.specs.declared.fault.WordsFault.{WordsFault}
 use Rattle.cm_top.specs.declared.reply.Reply.{Reply}
-use Rattle.cm_top.specs.declared.reply.Reply.TheVariants.{Disk, Memory, Source}
+use Rattle.cm_top.specs.declared.reply.Reply.TheVariants.{Disk, Memory}
 use Rattle.cm_top.specs.declared.reply.Ended.{Ended}
 use Rattle.cm_top.specs.declared.reply.Ended.TheVariants.{Usage, Replied}
 use Rattle.cm_top.specs.declared.line.Line.{Line}
-use Rattle.cm_top.specs.declared.line.Line.TheVariants.{Init, Add, List as ListBay}
+use Rattle.cm_top.specs.declared.line.Line.TheVariants.{Init, Add, Update, Drop, List as ListBay}
 
 -- a sink: what it got, where it tells that, and how often it failed
 pub record Sunk : Type 0 where
@@ -56,45 +61,81 @@ Prints ended old new result = PrintsAll ended old new result ⊎ PrintsFront end
 abbrev pub step : Line → Given → Library → Step
 step (Init names) given library = step_init names library
 step (Add id) given library = step_add id given library
+step (Update id) given library = step_update id given library
+step (Drop bay job) given library = step_drop bay job library
 step (ListBay bay) given library = step_list bay library
 
--- The site's bay is a library, whose log has its closed gate at a place, and the folder has files, of which the machine's step
--- gives this reply and the library that the bay is now, with the whole trees of its versions. A disk or a folder that tells its
--- content pins that library, its gate and those files.
-pub record Steps (step : Given → Library → Step) (folder : Sourced) (old new : Option Files) (reply : Reply) : Type 0 where
+-- What a step starts from: what is given agrees with the folder and with the disk, and the disk reads as the library.
+pub record Starts (from to : Sourced) (reads : Option Files) (given : Given) (library : Library) : Type 0 where
+  pub readings : AreReadings from.shown from.faults to.faults given.readings
+  pub gate : ForSome reads (λ files. gate_in files ≡ given.gate)
+  pub library_is : IsLibrary reads library
+
+-- What a deed does to a disk that read as a library, finished or not.
+pub record Moves {D : Type 0} (reads : D → Option Files) (may_leave : D → List ℕ → File → Type 0) (moment : D → ℕ) (left_since : D → ℕ → Files → Type 0) (deed : Deed) (library : Library) (old new : D) : Type 0 where
+  -- reads give other bytes at places of a library alone, and no file is gone
+  pub places : Told KeepsPlaces (reads old) (reads new)
+  -- a deed without a step leaves what reads give
+  pub same : steps_of deed ≡ 0 → reads new ≡ reads old
+  -- Where each image opened to some state at the entry, an image at any moment was one at the entry, or opens to the library after some
+  -- of the steps.
+  pub moments : EachOpensSome (may_leave old) → ForSome (reads old) (λ _. LeavesOnly moment left_since old new (LeavesBy (may_leave old) deed library))
+
+-- each image opens to the library after a deed; without an opening it was an image at the entry
+abbrev pub IsDone : {D : Type 0} → (D → Option Files) → (D → List ℕ → File → Type 0) → Deed → Library → D → D → Type 0
+IsDone reads may_leave Nothing library old new = ForSome (reads old) (λ _. (image : Files) → IsImage (may_leave new) image → IsImage (may_leave old) image)
+IsDone reads may_leave NewLibrary library old new = ForSome (reads old) (λ _. (image : Files) → IsImage (may_leave new) image → OpensTo (after 1 NewLibrary library) image)
+IsDone reads may_leave (Commits changes) library old new =
+    EachOpensSome (may_leave old) → ForSome (reads old) (λ _. (image : Files) → IsImage (may_leave new) image → OpensTo (after (steps_of (Commits changes)) (Commits changes) library) image)
+
+-- The machine's step was done whole: its reply is given, the disk reads as the library after it, and each image opens to that.
+pub record Steps {D : Type 0} (reads : D → Option Files) (may_leave : D → List ℕ → File → Type 0) (moment : D → ℕ) (left_since : D → ℕ → Files → Type 0) (step : Given → Library → Step) (from to : Sourced) (old new : D) (reply : Reply) : Type 0 where
   pub given : Given
-  pub agrees : Agrees folder.shown given.files
-  pub gate : ForSome old (λ files. gate_in files ≡ given.gate)
   pub library : Library
-  pub before : IsLibrary old library
+  pub starts : Starts from to (reads old) given library
   pub replies : reply ≡ (step given library).reply
-  pub after : Becomes old new (step given library).after
-  pub opens : OpensOn (step given library).effect old new
+  pub moves : Moves reads may_leave moment left_since (step given library).deed library old new
+  pub becomes : Becomes (reads old) (reads new) (after (steps_of (step given library).deed) (step given library).deed library)
+  pub done : IsDone reads may_leave (step given library).deed library old new
 
--- How a command ends on the site's bay: by the step, or by a fault with its cause. After a fault of the folder the bay reads as
--- before; after a fault of the disk and for want of memory nothing is claimed of it.
-abbrev pub EndsOn : (Given → Library → Step) → Sourced → Sourced → Seen → Seen → Reply → Type 0
-EndsOn step from to old new (Disk bay) = (bay ≡ site) × Rose old.faults new.faults
-EndsOn step from to old new Memory = Unit {0}
-EndsOn step from to old new Source = Rose from.faults to.faults × (new.reads ≡ old.reads)
-EndsOn step from to old new reply = Steps step from old.reads new.reads reply
+-- an image opens to the library after n steps; before the first it may be one of the entry
+abbrev pub IsAfter : (List ℕ → File → Type 0) → ℕ → Deed → Library → Files → Type 0
+IsAfter may_leave n deed library image = OpensTo (after n deed library) image ⊎ ((n ≡ 0) × IsImage may_leave image)
 
--- the same among the bays
-abbrev pub EndsBy : (Given → Library → Step) → Sourced → Sourced → List Seen → List Seen → Reply → Type 0
-EndsBy step from to old new (Disk bay) = Rose (faults_of bay old) (faults_of bay new)
-EndsBy step from to old new Memory = Unit {0}
-EndsBy step from to old new Source = Rose from.faults to.faults × (reads_of site new ≡ reads_of site old)
-EndsBy step from to old new reply = Steps step from (reads_of site old) (reads_of site new) reply
+-- There was no memory: the step was given up behind n of its steps, and each image opens to the library after these.
+pub record GivesUp {D : Type 0} (reads : D → Option Files) (may_leave : D → List ℕ → File → Type 0) (moment : D → ℕ) (left_since : D → ℕ → Files → Type 0) (step : Given → Library → Step) (from to : Sourced) (old new : D) : Type 0 where
+  pub given : Given
+  pub library : Library
+  pub starts : Starts from to (reads old) given library
+  pub moves : Moves reads may_leave moment left_since (step given library).deed library old new
+  pub n : ℕ
+  pub within : n ≤ steps_of (step given library).deed
+  pub becomes : Becomes (reads old) (reads new) (after n (step given library).deed library)
+  pub images : EachOpensSome (may_leave old) → ForSome (reads old) (λ _. (image : Files) → IsImage (may_leave new) image → IsAfter (may_leave old) n (step given library).deed library image)
 
--- how a line ends
-abbrev pub Ends : Line → Sourced → Sourced → List Seen → List Seen → Reply → Type 0
-Ends line from to old new reply = EndsBy (step line) from to old new reply
+-- The disk failed: the step stopped behind n of its steps, and the next one may be there or not, in what reads give and in each image.
+pub record Stops {D : Type 0} (reads : D → Option Files) (may_leave : D → List ℕ → File → Type 0) (moment : D → ℕ) (left_since : D → ℕ → Files → Type 0) (step : Given → Library → Step) (from to : Sourced) (old new : D) : Type 0 where
+  pub given : Given
+  pub library : Library
+  pub starts : Starts from to (reads old) given library
+  pub moves : Moves reads may_leave moment left_since (step given library).deed library old new
+  pub n : ℕ
+  pub within : n ≤ steps_of (step given library).deed
+  pub becomes : Becomes (reads old) (reads new) (after n (step given library).deed library) ⊎ Becomes (reads old) (reads new) (after (n + 1) (step given library).deed library)
+  pub images : EachOpensSome (may_leave old) → ForSome (reads old) (λ _. (image : Files) → IsImage (may_leave new) image
+      → IsAfter (may_leave old) n (step given library).deed library image ⊎ OpensTo (after (n + 1) (step given library).deed library) image)
+
+-- How a command ends on the site's disk: the disk failed, there was no memory, or the machine's step was done.
+abbrev pub EndsOn : {D : Type 0} → (D → Option Files) → (D → List ℕ → File → Type 0) → (D → ℕ) → (D → ℕ → Files → Type 0) → (D → ℕ) → (Given → Library → Step) → Sourced → Sourced → Reply → D → D → Type 0
+EndsOn reads may_leave moment left_since faults step from to (Disk bay) old new = (bay ≡ site) × Rose (faults old) (faults new) × Stops reads may_leave moment left_since step from to old new
+EndsOn reads may_leave moment left_since faults step from to Memory old new = GivesUp reads may_leave moment left_since step from to old new
+EndsOn reads may_leave moment left_since faults step from to reply old new = Steps reads may_leave moment left_since step from to old new reply
 
 -- What a run does.
-pub record RunMeets (words : List (List ℕ)) (from to : Sourced) (old new : List Seen) (out out' : Sunk) (result : ℕ) : Type 0 where
-  -- the words are refused: no disk changes, and the usage line is printed, or want of memory
+pub record RunMeets {D : Type 0} (reads : D → Option Files) (may_leave : D → List ℕ → File → Type 0) (moment : D → ℕ) (left_since : D → ℕ → Files → Type 0) (faults : D → ℕ) (words : List (List ℕ)) (from to : Sourced) (old new : List (Bay D)) (out out' : Sunk) (result : ℕ) : Type 0 where
+  -- the words are refused: the bays are as they were, and the usage line is printed, or want of memory
   pub refused : (fault : WordsFault) → read_line words ≡ Err fault → (new ≡ old) × (Prints (Usage fault) out out' result ⊎ Prints (Replied Memory) out out' result)
-  -- else the line ends by a reply, which is printed
-  pub read : (line : Line) → read_line words ≡ Ok line → (reply : Reply) × Ends line from to old new reply × Prints (Replied reply) out out' result
-  -- no other bay changes
-  pub bays : SameBut site old new
+  -- else the line ends by a reply, which is printed, or want of memory for its text
+  pub read : (line : Line) → read_line words ≡ Ok line
+      → ((reply : Reply) × OnSite (EndsOn reads may_leave moment left_since faults (step line) from to reply) old new × (Prints (Replied reply) out out' result ⊎ Prints (Replied Memory) out out' result))
+      ⊎ ((new ≡ old) × Prints (Replied Memory) out out' result)

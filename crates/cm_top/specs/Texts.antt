@@ -2,14 +2,15 @@
 use Rattle.std.specs.Prelude.{ℕ, List, [], ◌∷◌, ◌++◌, codes}
 use Rattle.std.specs.List.{flat_map}
 use Rattle.std.specs.Fmt.{decimal}
+use Rattle.hex.specs.Hex.{encode_lower}
 use Rattle.cm_state.specs.declared.row.VersionRow.{VersionRow}
 use Rattle.cm_state.specs.declared.row.JobRow.{JobRow}
 use Rattle.cm_top.specs.declared.fault.WordsFault.{WordsFault}
 use Rattle.cm_top.specs.declared.fault.WordsFault.TheVariants.{NoCommand, UnknownCommand, BadValue, MissingWord, ExtraWord, Memory as NoMemory}
 use Rattle.cm_top.specs.declared.reply.Refusal.{Refusal}
-use Rattle.cm_top.specs.declared.reply.Refusal.TheVariants.{PackageThere, TooManyVersions, TooManyEntries, NoBay, BadPath, SamePath, TooManyFiles, FileTooLong, Spent}
+use Rattle.cm_top.specs.declared.reply.Refusal.TheVariants.{PackageThere, NoPackage, NoJob, TooManyVersions, TooManyEntries, TooManyJobs, NoBay, BadPath, SamePath, TooManyFiles, FileTooLong, VersionsSpent, Spent}
 use Rattle.cm_top.specs.declared.reply.Reply.{Reply}
-use Rattle.cm_top.specs.declared.reply.Reply.TheVariants.{Made, Added, Versions, Refused, Source, Disk, Memory, NoLibrary, Unreadable}
+use Rattle.cm_top.specs.declared.reply.Reply.TheVariants.{Made, Added, Dropped, Versions, Refused, Source, Changed, Disk, Memory, NoLibrary, Unreadable}
 use Rattle.cm_top.specs.declared.reply.Ended.{Ended}
 use Rattle.cm_top.specs.declared.reply.Ended.TheVariants.{Usage, Replied}
 
@@ -35,13 +36,17 @@ usage_words NoMemory = codes "memory" ∷ []
 -- the number, the name and the kept values of a refusal
 abbrev pub refusal_words : Refusal → List (List ℕ)
 refusal_words (PackageThere last) = codes "2" ∷ codes "PackageThere" ∷ decimal last ∷ []
+refusal_words NoPackage = codes "3" ∷ codes "NoPackage" ∷ []
+refusal_words NoJob = codes "4" ∷ codes "NoJob" ∷ []
 refusal_words TooManyVersions = codes "7" ∷ codes "TooManyVersions" ∷ []
 refusal_words TooManyEntries = codes "8" ∷ codes "TooManyEntries" ∷ []
+refusal_words TooManyJobs = codes "9" ∷ codes "TooManyJobs" ∷ []
 refusal_words (NoBay name) = codes "10" ∷ codes "NoBay" ∷ name ∷ []
 refusal_words (BadPath entry) = codes "19" ∷ codes "BadPath" ∷ decimal entry ∷ []
 refusal_words (SamePath entry) = codes "20" ∷ codes "SamePath" ∷ decimal entry ∷ []
 refusal_words TooManyFiles = codes "21" ∷ codes "TooManyFiles" ∷ []
 refusal_words (FileTooLong entry) = codes "22" ∷ codes "FileTooLong" ∷ decimal entry ∷ []
+refusal_words VersionsSpent = codes "28" ∷ codes "VersionsSpent" ∷ []
 refusal_words Spent = codes "30" ∷ codes "Spent" ∷ []
 
 -- the line of a version: package, version, `done`, files and bytes
@@ -55,9 +60,12 @@ job_line row = spoken (row.package ∷ decimal row.version ∷ codes "job" ∷ d
 abbrev pub reply_text : Reply → List ℕ
 reply_text (Made count) = spoken (codes "made" ∷ decimal count ∷ [])
 reply_text (Added id version files bytes) = spoken (codes "added" ∷ id ∷ decimal version ∷ codes "files" ∷ decimal files ∷ codes "bytes" ∷ decimal bytes ∷ [])
+reply_text Dropped = spoken (codes "dropped" ∷ [])
 reply_text (Versions versions jobs) = flat_map version_line versions ++ flat_map job_line jobs
 reply_text (Refused refusal) = spoken (codes "refused" ∷ refusal_words refusal)
 reply_text Source = spoken (codes "source" ∷ [])
+reply_text (Changed path first first_size second second_size) =
+    spoken (codes "changed" ∷ path ∷ encode_lower first.0 ∷ decimal first_size ∷ encode_lower second.0 ∷ decimal second_size ∷ [])
 reply_text (Disk bay) = spoken (codes "disk" ∷ bay ∷ [])
 reply_text Memory = spoken (codes "memory" ∷ [])
 reply_text (NoLibrary bay) = spoken (codes "library" ∷ bay ∷ codes "missing" ∷ [])
@@ -70,9 +78,11 @@ usage_status fault = 2
 abbrev pub reply_status : Reply → ℕ
 reply_status (Made count) = 0
 reply_status (Added id version files bytes) = 0
+reply_status Dropped = 0
 reply_status (Versions versions jobs) = 0
 reply_status (Refused refusal) = 1
 reply_status Source = 3
+reply_status (Changed path first first_size second second_size) = 3
 reply_status (Disk bay) = 5
 reply_status Memory = 6
 reply_status (NoLibrary bay) = 7

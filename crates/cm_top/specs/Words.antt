@@ -1,12 +1,13 @@
 -- The line that the words say.
-use Rattle.std.specs.Prelude.{ℕ, ◌+◌, ◌==◌, Bool, false, ◌||◌, if◌then◌else◌, List, [], ◌∷◌, map, codes, Option, None, Some, Result, Ok, Err}
-use Rattle.std.specs.Prelude.{String, string_bytes}
+use Rattle.std.specs.Prelude.{ℕ, ◌+◌, ◌-◌, ◌==◌, nat_lt, Bool, false, ◌||◌, if◌then◌else◌, List, [], ◌∷◌, length, map, slice_get, codes}
+use Rattle.std.specs.Prelude.{Option, None, Some, Result, Ok, Err, String, string_bytes}
 use Rattle.std.specs.Str.{bytes_eq}
 use Rattle.cm_base.specs.Names.{name_of, is_package_id, text_if}
 use Rattle.cm_top.specs.declared.fault.WordsFault.{WordsFault}
 use Rattle.cm_top.specs.declared.fault.WordsFault.TheVariants.{NoCommand, UnknownCommand, BadValue, MissingWord, ExtraWord}
 use Rattle.cm_top.specs.declared.line.Line.{Line}
-use Rattle.cm_top.specs.declared.line.Line.TheVariants.{Init, Add, List as ListBay}
+use Rattle.cm_top.specs.declared.line.Line.TheVariants.{Init, Add, Update, Drop, List as ListBay}
+use Rattle.cm_top.specs.Numbers.{job_of}
 
 -- the bytes of each word
 abbrev pub texts : {A : Type 0} → List (String A) → List (List ℕ)
@@ -37,46 +38,40 @@ abbrev pub formed : {A : Type 0} → Option A → ℕ → Result A WordsFault
 formed None number = Err (BadValue number)
 formed (Some value) number = Ok value
 
--- one value more in front
-abbrev pub in_front : List ℕ → Result (List (List ℕ)) WordsFault → Result (List (List ℕ)) WordsFault
-in_front name (Ok names) = Ok (name ∷ names)
-in_front name (Err fault) = Err fault
+-- the same where the value may be absent
+abbrev pub value_by : {A : Type 0} → (List ℕ → Option A) → ℕ → Option (List ℕ) → Result A WordsFault
+value_by form number None = Err (MissingWord number)
+value_by form number (Some text) = formed (form text) number
 
-abbrev pub then_names : Result (List ℕ) WordsFault → Result (List (List ℕ)) WordsFault → Result (List (List ℕ)) WordsFault
-then_names (Err fault) names = Err fault
-then_names (Ok name) names = in_front name names
+-- the value with that number, from 1, by its form
+abbrev pub value_at : {A : Type 0} → (List ℕ → Option A) → ℕ → List (List ℕ) → Result A WordsFault
+value_at form number values = value_by form number (slice_get values (number - 1))
+
+-- exactly so many positional values, and no option: else a word is too many, or else the first absent value is missing
+abbrev pub counted_values : ℕ → List (List ℕ) → Result (List (List ℕ)) WordsFault
+counted_values count words =
+    if has_option words || nat_lt count (length (values_of words)) then Err ExtraWord
+    else (if nat_lt (length (values_of words)) count then Err (MissingWord (length (values_of words) + 1))
+    else Ok (values_of words))
+
+-- the result of a step after this one, or its fault
+abbrev pub and_then : {A B : Type 0} → Result A WordsFault → (A → Result B WordsFault) → Result B WordsFault
+and_then (Ok value) step = step value
+and_then (Err fault) step = Err fault
 
 -- the names that these values are, of which the first has that number
 abbrev pub names_from : ℕ → List (List ℕ) → Result (List (List ℕ)) WordsFault
 names_from number [] = Ok []
-names_from number (value ∷ values) = then_names (formed (name_of value) number) (names_from (number + 1) values)
-
--- the one value of a command that has one
-abbrev pub only_value : List (List ℕ) → Result (List ℕ) WordsFault
-only_value [] = Err (MissingWord 1)
-only_value (value ∷ []) = Ok value
-only_value (value ∷ next ∷ values) = Err ExtraWord
-
-abbrev pub init_of : Result (List (List ℕ)) WordsFault → Result Line WordsFault
-init_of (Ok names) = Ok (Init names)
-init_of (Err fault) = Err fault
-
-abbrev pub add_of : Result (List ℕ) WordsFault → Result Line WordsFault
-add_of (Ok id) = Ok (Add id)
-add_of (Err fault) = Err fault
-
-abbrev pub list_of : Result (List ℕ) WordsFault → Result Line WordsFault
-list_of (Ok bay) = Ok (ListBay bay)
-list_of (Err fault) = Err fault
-
--- the first value, of a form
-abbrev pub one_formed : (List ℕ → Option (List ℕ)) → Result (List ℕ) WordsFault → Result (List ℕ) WordsFault
-one_formed form (Ok value) = formed (form value) 1
-one_formed form (Err fault) = Err fault
+names_from number (value ∷ values) =
+    and_then (formed (name_of value) number) (λ name.
+    and_then (names_from (number + 1) values) (λ names.
+    Ok (name ∷ names)))
 
 -- the words behind `init`: bay names, none or more
 abbrev pub read_init : List (List ℕ) → Result Line WordsFault
-read_init words = if has_option words then Err ExtraWord else init_of (names_from 1 (values_of words))
+read_init words =
+    if has_option words then Err ExtraWord
+    else and_then (names_from 1 (values_of words)) (λ names. Ok (Init names))
 
 -- the form of a package
 abbrev pub package_of : List ℕ → Option (List ℕ)
@@ -84,11 +79,32 @@ package_of text = text_if (is_package_id text) text
 
 -- the words behind `add`: a package
 abbrev pub read_add : List (List ℕ) → Result Line WordsFault
-read_add words = if has_option words then Err ExtraWord else add_of (one_formed package_of (only_value (values_of words)))
+read_add words =
+    and_then (counted_values 1 words) (λ values.
+    and_then (value_at package_of 1 values) (λ id.
+    Ok (Add id)))
+
+-- the words behind `update`: a package
+abbrev pub read_update : List (List ℕ) → Result Line WordsFault
+read_update words =
+    and_then (counted_values 1 words) (λ values.
+    and_then (value_at package_of 1 values) (λ id.
+    Ok (Update id)))
 
 -- the words behind `list`: a bay
 abbrev pub read_list : List (List ℕ) → Result Line WordsFault
-read_list words = if has_option words then Err ExtraWord else list_of (one_formed name_of (only_value (values_of words)))
+read_list words =
+    and_then (counted_values 1 words) (λ values.
+    and_then (value_at name_of 1 values) (λ bay.
+    Ok (ListBay bay)))
+
+-- the words behind `drop`: a bay, and a job
+abbrev pub read_drop : List (List ℕ) → Result Line WordsFault
+read_drop words =
+    and_then (counted_values 2 words) (λ values.
+    and_then (value_at name_of 1 values) (λ bay.
+    and_then (value_at job_of 2 values) (λ job.
+    Ok (Drop bay job))))
 
 -- the line that the words say, or why they are refused
 abbrev pub read_line : List (List ℕ) → Result Line WordsFault
@@ -96,5 +112,7 @@ read_line [] = Err NoCommand
 read_line (word ∷ words) =
     if bytes_eq word (codes "init") then read_init words
     else (if bytes_eq word (codes "add") then read_add words
+    else (if bytes_eq word (codes "update") then read_update words
     else (if bytes_eq word (codes "list") then read_list words
-    else Err UnknownCommand))
+    else (if bytes_eq word (codes "drop") then read_drop words
+    else Err UnknownCommand))))

@@ -1,40 +1,45 @@
--- The site's library with the whole trees of its versions, and what a command commits of them.
-use Rattle.std.specs.Prelude.{◌≡◌, ℕ, List, [], ◌++◌, Option, None, Some, option_map}
-use Rattle.std.specs.Option.{ForSome}
-use Rattle.cm_disk.specs.Disk.{Files}
-use Rattle.cm_tree.specs.Trees.{File, Apart}
-use Rattle.cm_state.specs.Look.{Missing, look}
-use Rattle.cm_state.specs.Whole.{Trees, OpensTrees, with_tree, bytes_of_tree, bytes_of_trees}
+-- What a command does to a bay's library, step by step.
+use Rattle.std.specs.Prelude.{◌≡◌, ◌⊎◌, ℕ, zero, suc, ◌≤◌, List, length, take}
+use Rattle.cm_disk.specs.Disk.{File, Files, IsImage}
+use Rattle.cm_state.specs.Changes.{StateChange, replayed}
+use Rattle.cm_state.specs.Look.{Library, Missing, Opened, Unreadable, look}
+use Rattle.cm_state.specs.Opens.{Opens}
+use Rattle.cm_state.specs.State.{empty}
 
--- what a command commits: nothing, a new library, or version 1 of a package with its whole tree
-pub data Effect : Type 0 where
-  Nothing : Effect
-  NewLibrary : Effect
-  NewVersion : List ℕ → List File → Effect
+-- What a command does to a library: nothing, without opening it; it makes a new one; or it opens it and commits changes in their order,
+-- of which there may be none.
+pub data Deed : Type 0 where
+  Nothing : Deed
+  NewLibrary : Deed
+  Commits : List StateChange → Deed
 
--- a new library
-abbrev pub no_trees : Trees
-no_trees = record { versions = []; jobs = []; next = 1; lasts = [] }
+-- how many steps a deed has
+abbrev pub steps_of : Deed → ℕ
+steps_of Nothing = 0
+steps_of NewLibrary = 1
+steps_of (Commits changes) = length changes
 
--- these files are a library with these whole trees, or no library
-abbrev pub OpensTo : Files → Option Trees → Type 0
-OpensTo files None = look files ≡ Missing
-OpensTo files (Some trees) = OpensTrees files trees
+-- the library after the first n of them
+abbrev pub after : ℕ → Deed → Library → Library
+after n Nothing library = library
+after zero NewLibrary library = library
+after (suc n) NewLibrary library = Opened empty
+after n (Commits changes) Missing = Missing
+after n (Commits changes) (Opened state) = Opened (replayed (take n changes) state)
+after n (Commits changes) (Unreadable place at) = Unreadable place at
 
--- the library after a command
-abbrev pub after_effect : Effect → Option Trees → Option Trees
-after_effect Nothing world = world
-after_effect NewLibrary world = Some no_trees
-after_effect (NewVersion id files) world = option_map (with_tree id 1 files) world
+-- files open to a library: they have none; or they open to its state, with each file of its versions; or they are not readable there
+abbrev pub OpensTo : Library → Files → Type 0
+OpensTo Missing files = look files ≡ Missing
+OpensTo (Opened state) files = Opens files state
+OpensTo (Unreadable place at) files = look files ≡ Unreadable place at
 
--- any two byte strings, of the files handed in and of those there, that have one SHA-256 are equal
-abbrev pub AreApart : Effect → Option Trees → Type 0
-AreApart Nothing world = Unit {0}
-AreApart NewLibrary world = Unit {0}
-AreApart (NewVersion id files) None = Unit {0}
-AreApart (NewVersion id files) (Some trees) = Apart (bytes_of_tree files ++ bytes_of_trees trees)
+-- files open to the library after some of the steps, from the first on
+abbrev pub OpensAmong : Deed → Library → Files → Type 0
+OpensAmong deed library files = (n : ℕ) × (n ≤ steps_of deed) × OpensTo (after n deed library) files
 
--- where the disk tells what it reads as, a library with whole trees is now the one after the command, with whole trees
-abbrev pub OpensOn : Effect → Option Files → Option Files → Type 0
-OpensOn effect old new = ForSome old (λ files. (world : Option Trees) → OpensTo files world → AreApart effect world
-    → (now : Files) × (new ≡ Some now) × OpensTo now (after_effect effect world))
+-- What a crash leaves at any moment of a deed: what it might have left at the entry, or files that open to the library after some steps.
+abbrev pub LeavesBy : (List ℕ → File → Type 0) → Deed → Library → Files → Type 0
+LeavesBy may_leave Nothing library files = IsImage may_leave files
+LeavesBy may_leave NewLibrary library files = IsImage may_leave files ⊎ OpensAmong NewLibrary library files
+LeavesBy may_leave (Commits changes) library files = IsImage may_leave files ⊎ OpensAmong (Commits changes) library files

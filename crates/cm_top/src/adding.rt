@@ -1,36 +1,23 @@
-//! The command `add`.
-ghost use Rattle.std.specs.Prelude.{◌≡◌, ◌<◌, [], None, Some};
-ghost use Rattle.std.specs.Option.{ForSome};
-ghost use Rattle.cm_contents.specs.Seals.{SealsVersions};
-ghost use Rattle.cm_pkglib.specs.Counts.{seal_at};
+//! The commands `add` and `update`.
+ghost use Rattle.std.specs.Prelude.{◌≡◌, ◌≢◌, ◌+◌};
+ghost use Rattle.std.specs.Option.{SomeIff};
+ghost use Rattle.cm_intake.specs.Intake.{IsAbove};
 ghost use Rattle.cm_pkglib.specs.Rows.{last_of};
-ghost use Rattle.cm_tree.specs.GatheredFiles.{files_of};
-ghost use Rattle.cm_tree.specs.Scans.{Gathers};
-ghost use Rattle.cm_tree.specs.Trees.{IsTree, manifest_of};
-ghost use Rattle.cm_state.specs.Look.{Opened, look, gate_in};
-ghost use Rattle.cm_state.specs.State.{bytes_of, count_in};
-ghost use Rattle.cm_top.specs.Bays.{seen, seen_disk, site, SameBut, IsSiteAlone};
-ghost use Rattle.cm_top.specs.Machine.{refusal_of, step_add};
-ghost use Rattle.cm_top.specs.Openings.{reply_to_add};
-ghost use Rattle.cm_top.specs.Runs.{EndsOn, EndsBy, Sourced, sourced};
+ghost use Rattle.cm_state.specs.State.{State};
+ghost use Rattle.cm_top.specs.Bays.{site, IsSiteAlone, OnSite};
+ghost use Rattle.cm_top.specs.Machine.{Given, Step, reply_to, taken_in, opened, step_add, step_update};
+ghost use Rattle.cm_top.specs.Opened.{IsOpened};
+ghost use Rattle.cm_top.specs.Runs.{EndsOn, Sourced, sourced};
 
 use crate::bay::{put_back, taken};
-use crate::opening::not_opened;
+use crate::opening::open_site;
 use crate::{Bay, Refusal, Reply};
 use cm_base::{PackageId, ServerName, Version};
 use cm_disk::Disk;
-use cm_library::{LibFault, Library};
-use cm_state::adding_keeps_trees_whole;
-use cm_tree::{Folder, Gathered, GatheredFile, ScanFault, gather};
+use cm_intake::{IntakeFault, Taken, take_in};
+use cm_library::Library;
+use cm_tree::Folder;
 use std::alloc::Global;
-
-/// The most files of a folder, and the most bytes of one of them.
-const MOST_FILES: u32 = 64;
-
-const MOST_BYTES: u32 = 65_536;
-
-/// The most versions and unfinished jobs of a library.
-const MOST_VERSIONS: u32 = 64;
 
 fn first_version() -> Version
     ensures { result ≡ 1 }
@@ -41,29 +28,17 @@ fn first_version() -> Version
     }
 }
 
-// The bytes of all files together.
-fn total(files: &[GatheredFile]) -> u64
-    requires { IsTree (files_of files.now) }
-    ensures { result ≡ bytes_of (manifest_of (files_of files.now)) }
+// The version behind another. None exactly behind the greatest one.
+fn behind(last: Version) -> Option<Version>
+    ensures { SomeIff result (last ≢ 4294967295) (last + 1) }
 {
-    let mut total: u64 = 0;
-    for file in files {
-        total += file.bytes.as_slice().len() as u64;
+    let number = last.number();
+    if number == u32::MAX {
+        return None;
     }
-    total
-}
-
-// The reply where a folder gives no tree.
-fn not_gathered(fault: ScanFault) -> Reply
-    ensures { result ≡ refusal_of fault }
-{
-    match fault {
-        ScanFault::Folder => Reply::Source,
-        ScanFault::TooManyFiles => refused(Refusal::TooManyFiles),
-        ScanFault::BadPath { entry } => refused(Refusal::BadPath { entry }),
-        ScanFault::SamePath { entry } => refused(Refusal::SamePath { entry }),
-        ScanFault::FileTooLong { entry } => refused(Refusal::FileTooLong { entry }),
-        ScanFault::Memory => Reply::Memory,
+    match Version::new(number + 1) {
+        Some(next) => Some(next),
+        None => unreachable!(),
     }
 }
 
@@ -73,120 +48,121 @@ fn refused(refusal: Refusal) -> Reply
     Reply::Refused { refusal }
 }
 
-// The reply where a library takes no new package.
-fn not_added(bay: ServerName, fault: LibFault) -> Reply
-    ensures { result ≡ reply_to_add bay fault }
-{
-    match fault {
-        LibFault::TooManyVersions => refused(Refusal::TooManyVersions),
-        LibFault::TooManyEntries => refused(Refusal::TooManyEntries),
-        LibFault::Spent => refused(Refusal::Spent),
-        LibFault::Disk => Reply::Disk { bay },
-        _ => Reply::Memory,
-    }
-}
-
-// Adds a tree to a library that has room for a version.
-fn add_tree<D: Disk + Drop>(
-    alloc: Global,
-    library: &mut Library<D>,
+// The reply to an intake.
+fn reply_of(
     package: PackageId,
-    tree: &Gathered,
+    version: Version,
+    result_of: Result<Taken, IntakeFault>,
     site_name: ServerName,
 ) -> Reply
-    requires settled { library.old.pending ≡ None }
-    requires stands { ForSome (D.reads library.old.disk) (λ files. look files ≡ Opened library.old.state) }
-    requires gate { ForSome (D.reads library.old.disk) (λ files. gate_in files ≡ library.old.end) }
-    requires sealed { SealsVersions (seal_at library.old.seals) library.old.state }
-    requires free { library.old.started ≡ [] }
-    requires new { last_of «package» library.old.state.lasts ≡ None }
-    requires few { count_in library.old.state < 64 }
-    requires named { site_name ≡ site }
-    ensures { (from to : Sourced) → Gathers 64 65536 from.shown tree.now → EndsOn (step_add «package») from to
-        (seen_disk D.reads D.faults library.old.disk) (seen_disk D.reads D.faults library.new.disk) result }
-{
-    adding_keeps_trees_whole();
-    let files = tree.files();
-    match library.add_tree(alloc, package, first_version(), tree) {
-        Ok(()) => Reply::Added {
-            package,
-            version: first_version(),
-            files: files.len() as u32,
-            bytes: total(files),
-        },
-        Err(fault) => not_added(site_name, fault),
-    }
-}
-
-// Adds a tree to a library that has never opened a version of the package.
-fn add_new<D: Disk + Drop>(
-    alloc: Global,
-    library: &mut Library<D>,
-    package: PackageId,
-    tree: &Gathered,
-    site_name: ServerName,
-) -> Reply
-    requires settled { library.old.pending ≡ None }
-    requires stands { ForSome (D.reads library.old.disk) (λ files. look files ≡ Opened library.old.state) }
-    requires gate { ForSome (D.reads library.old.disk) (λ files. gate_in files ≡ library.old.end) }
-    requires sealed { SealsVersions (seal_at library.old.seals) library.old.state }
-    requires free { library.old.started ≡ [] }
-    requires new { last_of «package» library.old.state.lasts ≡ None }
-    requires named { site_name ≡ site }
-    ensures { (from to : Sourced) → Gathers 64 65536 from.shown tree.now → EndsOn (step_add «package») from to
-        (seen_disk D.reads D.faults library.old.disk) (seen_disk D.reads D.faults library.new.disk) result }
-{
-    if library.count() >= MOST_VERSIONS {
-        return refused(Refusal::TooManyVersions);
-    }
-    add_tree(alloc, library, package, tree, site_name)
-}
-
-// Adds a folder to a library.
-fn add_folder<F: Folder, D: Disk + Drop>(
-    alloc: Global,
-    library: &mut Library<D>,
-    folder: &mut F,
-    package: PackageId,
-    site_name: ServerName,
-) -> Reply
-    requires settled { library.old.pending ≡ None }
-    requires stands { ForSome (D.reads library.old.disk) (λ files. look files ≡ Opened library.old.state) }
-    requires gate { ForSome (D.reads library.old.disk) (λ files. gate_in files ≡ library.old.end) }
-    requires sealed { SealsVersions (seal_at library.old.seals) library.old.state }
-    requires free { library.old.started ≡ [] }
-    requires named { site_name ≡ site }
-    ensures { EndsOn (step_add «package») (sourced F.shows F.faults folder.old) (sourced F.shows F.faults folder.new)
-        (seen_disk D.reads D.faults library.old.disk) (seen_disk D.reads D.faults library.new.disk) result }
-{
-    if let Some(last) = library.last(package) {
-        return refused(Refusal::PackageThere { last });
-    }
-    match gather(alloc, folder, MOST_FILES, MOST_BYTES) {
-        Ok(tree) => add_new(alloc, library, package, &tree, site_name),
-        Err(fault) => not_gathered(fault),
-    }
-}
-
-// Opens the library on the site's disk, and adds a folder to it.
-fn add_disk<F: Folder, D: Disk + Drop>(
-    alloc: Global,
-    disk: D,
-    folder: &mut F,
-    package: PackageId,
-    site_name: ServerName,
-) -> (D, Reply)
     requires { site_name ≡ site }
-    ensures { EndsOn (step_add «package») (sourced F.shows F.faults folder.old) (sourced F.shows F.faults folder.new)
-        (seen_disk D.reads D.faults disk) (seen_disk D.reads D.faults result.0) result.1 }
+    ensures { result ≡ reply_to «package» version result_of }
 {
-    match Library::open(alloc, disk) {
-        Ok(library) => {
-            let mut library = library;
-            let reply = add_folder(alloc, &mut library, folder, package, site_name);
-            (library.close(), reply)
+    let fault = match result_of {
+        Ok(taken) => {
+            return Reply::Added {
+                package,
+                version,
+                files: taken.files,
+                bytes: taken.bytes,
+            };
         }
-        Err((disk, fault)) => (disk, not_opened(site_name, fault)),
+        Err(fault) => fault,
+    };
+    match fault {
+        IntakeFault::Folder => Reply::Source,
+        IntakeFault::TooManyFiles => refused(Refusal::TooManyFiles),
+        IntakeFault::BadPath { entry } => refused(Refusal::BadPath { entry }),
+        IntakeFault::SamePath { entry } => refused(Refusal::SamePath { entry }),
+        IntakeFault::FileTooLong { entry } => refused(Refusal::FileTooLong { entry }),
+        IntakeFault::TooManyVersions => refused(Refusal::TooManyVersions),
+        IntakeFault::TooManyEntries => refused(Refusal::TooManyEntries),
+        IntakeFault::TooManyJobs => refused(Refusal::TooManyJobs),
+        IntakeFault::Spent => refused(Refusal::Spent),
+        IntakeFault::Changed {
+            path,
+            first,
+            first_size,
+            second,
+            second_size,
+        } => Reply::Changed {
+            path,
+            first,
+            first_size,
+            second,
+            second_size,
+        },
+        IntakeFault::Disk => Reply::Disk { bay: site_name },
+        IntakeFault::Memory => Reply::Memory,
+    }
+}
+
+// Takes the folder into an opened library, as a version above all that were opened of the package. So ends each step that does that there.
+fn take<F: Folder, D: Disk + Drop>(
+    alloc: Global,
+    library: &mut Library<D>,
+    folder: &mut F,
+    package: PackageId,
+    version: Version,
+    site_name: ServerName,
+) -> Reply
+    requires opened { IsOpened D.reads D.may_leave D.moment D.left_since D.faults library.old }
+    requires fresh { IsAbove version (last_of «package» library.old.state.lasts) }
+    requires named { site_name ≡ site }
+    ensures { (step : Given → State → Step) → ((given : Given) → step given library.old.state ≡ taken_in «package» version given library.old.state)
+        → EndsOn D.reads D.may_leave D.moment D.left_since D.faults (λ given. opened (step given)) (sourced F.shows F.faults folder.old) (sourced F.shows F.faults folder.new) result library.old.start library.new.disk }
+{
+    let taken = take_in(alloc, library, folder, package, version);
+    library.tells();
+    reply_of(package, version, taken, site_name)
+}
+
+// Adds the folder to an opened library.
+fn add_opened<F: Folder, D: Disk + Drop>(
+    alloc: Global,
+    library: &mut Library<D>,
+    folder: &mut F,
+    package: PackageId,
+    site_name: ServerName,
+) -> Reply
+    requires opened { IsOpened D.reads D.may_leave D.moment D.left_since D.faults library.old }
+    requires named { site_name ≡ site }
+    ensures { EndsOn D.reads D.may_leave D.moment D.left_since D.faults (step_add «package») (sourced F.shows F.faults folder.old) (sourced F.shows F.faults folder.new) result library.old.start library.new.disk }
+{
+    match library.last(package) {
+        None => take(alloc, library, folder, package, first_version(), site_name),
+        Some(last) => {
+            library.tells();
+            refused(Refusal::PackageThere { last })
+        }
+    }
+}
+
+// Adds the folder to an opened library, as the version behind the greatest one.
+fn update_opened<F: Folder, D: Disk + Drop>(
+    alloc: Global,
+    library: &mut Library<D>,
+    folder: &mut F,
+    package: PackageId,
+    site_name: ServerName,
+) -> Reply
+    requires opened { IsOpened D.reads D.may_leave D.moment D.left_since D.faults library.old }
+    requires named { site_name ≡ site }
+    ensures { EndsOn D.reads D.may_leave D.moment D.left_since D.faults (step_update «package») (sourced F.shows F.faults folder.old) (sourced F.shows F.faults folder.new) result library.old.start library.new.disk }
+{
+    let last = match library.last(package) {
+        Some(last) => last,
+        None => {
+            library.tells();
+            return refused(Refusal::NoPackage);
+        }
+    };
+    match behind(last) {
+        Some(next) => take(alloc, library, folder, package, next, site_name),
+        None => {
+            library.tells();
+            refused(Refusal::VersionsSpent)
+        }
     }
 }
 
@@ -197,13 +173,47 @@ pub(crate) fn add<F: Folder, D: Disk + Drop>(
     folder: &mut F,
     bays: &mut Vec<Bay<D>>,
 ) -> Reply
-    requires { IsSiteAlone (seen D.reads D.faults bays.old.items) }
-    ensures ends { EndsBy (step_add «package») (sourced F.shows F.faults folder.old) (sourced F.shows F.faults folder.new)
-        (seen D.reads D.faults bays.old.items) (seen D.reads D.faults bays.new.items) result }
-    ensures bays { SameBut site (seen D.reads D.faults bays.old.items) (seen D.reads D.faults bays.new.items) }
+    requires { IsSiteAlone bays.old.items }
+    ensures { OnSite (EndsOn D.reads D.may_leave D.moment D.left_since D.faults (step_add «package») (sourced F.shows F.faults folder.old) (sourced F.shows F.faults folder.new) result) bays.old.items bays.new.items }
 {
     let (name, disk) = taken(bays);
-    let (disk, reply) = add_disk(alloc, disk, folder, package, name);
-    put_back(bays, Bay { name, disk });
-    reply
+    match open_site(alloc, disk, name) {
+        Ok(library) => {
+            let mut library = library;
+            let reply = add_opened(alloc, &mut library, folder, package, name);
+            let disk = library.close();
+            put_back(bays, Bay { name, disk });
+            reply
+        }
+        Err((disk, reply)) => {
+            put_back(bays, Bay { name, disk });
+            reply
+        }
+    }
+}
+
+/// Adds the folder to the site's library, as the version behind the greatest one that was opened of its package.
+pub(crate) fn update<F: Folder, D: Disk + Drop>(
+    alloc: Global,
+    package: PackageId,
+    folder: &mut F,
+    bays: &mut Vec<Bay<D>>,
+) -> Reply
+    requires { IsSiteAlone bays.old.items }
+    ensures { OnSite (EndsOn D.reads D.may_leave D.moment D.left_since D.faults (step_update «package») (sourced F.shows F.faults folder.old) (sourced F.shows F.faults folder.new) result) bays.old.items bays.new.items }
+{
+    let (name, disk) = taken(bays);
+    match open_site(alloc, disk, name) {
+        Ok(library) => {
+            let mut library = library;
+            let reply = update_opened(alloc, &mut library, folder, package, name);
+            let disk = library.close();
+            put_back(bays, Bay { name, disk });
+            reply
+        }
+        Err((disk, reply)) => {
+            put_back(bays, Bay { name, disk });
+            reply
+        }
+    }
 }

@@ -1,9 +1,8 @@
 //! A disk under its name.
 ghost use Rattle.std.specs.Prelude.{◌≡◌, ◌<◌, ◌++◌, ◌∷◌, [], vec_len, vec_capacity};
-ghost use Rattle.cm_top.specs.Bays.{seen, site, IsSiteAlone};
+ghost use Rattle.cm_top.specs.Bays.{site, IsSiteAlone};
 
 use cm_base::ServerName;
-use cm_disk::Disk;
 
 /// A disk under its name: the site's, the records' or a point's.
 #[derive(Drop)]
@@ -13,8 +12,8 @@ pub struct Bay<D> {
 }
 
 /// Takes the only bay out, whose place is kept.
-pub(crate) fn taken<D: Disk>(bays: &mut Vec<Bay<D>>) -> (ServerName, D)
-    requires { IsSiteAlone (seen D.reads D.faults bays.old.items) }
+pub(crate) fn taken<D>(bays: &mut Vec<Bay<D>>) -> (ServerName, D)
+    requires { IsSiteAlone bays.old.items }
     ensures bay { bays.old.items ≡ record { name = result.0; disk = result.1 } ∷ [] }
     ensures none { bays.new.items ≡ [] }
     ensures name { result.0 ≡ site }
@@ -30,7 +29,7 @@ pub(crate) fn taken<D: Disk>(bays: &mut Vec<Bay<D>>) -> (ServerName, D)
 }
 
 /// Puts a bay back where there is room.
-pub(crate) fn put_back<D: Disk + Drop>(bays: &mut Vec<Bay<D>>, bay: Bay<D>)
+pub(crate) fn put_back<D: Drop>(bays: &mut Vec<Bay<D>>, bay: Bay<D>)
     requires { vec_len bays.old < vec_capacity bays.old }
     ensures { bays.new.items ≡ bays.old.items ++ bay ∷ [] }
 {

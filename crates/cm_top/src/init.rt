@@ -1,8 +1,8 @@
 //! The command `init`.
 ghost use Rattle.std.specs.Prelude.{◌≡◌, []};
-ghost use Rattle.cm_top.specs.Bays.{seen, seen_bay, site, SameBut, IsSiteAlone};
+ghost use Rattle.cm_top.specs.Bays.{site, IsSiteAlone, OnSite};
 ghost use Rattle.cm_top.specs.Machine.{no_bay, step_init};
-ghost use Rattle.cm_top.specs.Runs.{EndsOn, EndsBy, Sourced};
+ghost use Rattle.cm_top.specs.Runs.{EndsOn, Sourced};
 
 use crate::{Bay, Refusal, Reply};
 use cm_base::ServerName;
@@ -25,8 +25,7 @@ pub fn first_without_bay(names: &[ServerName]) -> Option<ServerName>
 fn make<D: Disk + Drop>(bay: &mut Bay<D>) -> Reply
     requires { bay.old.name ≡ site }
     ensures name { bay.new.name ≡ bay.old.name }
-    ensures ends { (from to : Sourced) → EndsOn (λ given library. step_init [] library) from to
-        (seen_bay D.reads D.faults bay.old) (seen_bay D.reads D.faults bay.new) result }
+    ensures ends { (from to : Sourced) → EndsOn D.reads D.may_leave D.moment D.left_since D.faults (λ given. step_init []) from to result bay.old.disk bay.new.disk }
 {
     match Library::init(&mut bay.disk) {
         Ok(()) => Reply::Made { count: 1 },
@@ -37,10 +36,8 @@ fn make<D: Disk + Drop>(bay: &mut Bay<D>) -> Reply
 
 /// Makes the library of the site's bay, unless a name is no bay. It reads no folder, so its clause is of any.
 pub(crate) fn init<D: Disk + Drop>(names: &[ServerName], bays: &mut Vec<Bay<D>>) -> Reply
-    requires { IsSiteAlone (seen D.reads D.faults bays.old.items) }
-    ensures ends { (from to : Sourced) → EndsBy (λ given library. step_init names.now library) from to
-        (seen D.reads D.faults bays.old.items) (seen D.reads D.faults bays.new.items) result }
-    ensures bays { SameBut site (seen D.reads D.faults bays.old.items) (seen D.reads D.faults bays.new.items) }
+    requires { IsSiteAlone bays.old.items }
+    ensures { (from to : Sourced) → OnSite (EndsOn D.reads D.may_leave D.moment D.left_since D.faults (λ given. step_init names.now) from to result) bays.old.items bays.new.items }
 {
     if let Some(name) = first_without_bay(names) {
         return Reply::Refused {

@@ -3,6 +3,7 @@
 
 mod adding;
 mod bay;
+mod dropping;
 mod fault;
 mod init;
 mod line;
@@ -21,4 +22,4 @@ pub use init::first_without_bay;
 pub use line::Line;
 pub use reply::{Ended, Refusal, Reply};
 pub use running::run;
-pub use words::read_words;
+pub use words::{numbers_are_their_digits, read_words};

@@ -1,13 +1,14 @@
 //! The command `list`.
-ghost use Rattle.std.specs.Prelude.{◌≡◌, ◌⊎◌, IfOk, List};
+ghost use Rattle.std.specs.Prelude.{◌≡◌, ◌⊎◌, IfOk};
 ghost use Rattle.cm_state.specs.State.{version_rows, job_rows};
-ghost use Rattle.cm_top.specs.Bays.{seen, seen_disk, site, SameBut, IsSiteAlone};
+ghost use Rattle.cm_top.specs.Bays.{IsSiteAlone, OnSite};
 ghost use Rattle.cm_top.specs.Machine.{step_list, listed};
-ghost use Rattle.cm_top.specs.Runs.{EndsOn, EndsBy, Sourced};
+ghost use Rattle.cm_top.specs.Opened.{IsOpened};
+ghost use Rattle.cm_top.specs.Runs.{EndsOn, Sourced};
 ghost use Rattle.cm_top.specs.declared.reply.Reply.TheVariants.{Versions, Memory};
 
 use crate::bay::{put_back, taken};
-use crate::opening::not_opened;
+use crate::opening::open_site;
 use crate::{Bay, Refusal, Reply};
 use cm_base::{List, ServerName};
 use cm_disk::Disk;
@@ -49,35 +50,31 @@ fn tell<D: Disk + Drop>(alloc: Global, library: &Library<D>, bay: ServerName) ->
     }
 }
 
-// Opens the library on the site's disk, and lists it.
-fn list_disk<D: Disk + Drop>(
-    alloc: Global,
-    disk: D,
-    bay: ServerName,
-    site_name: ServerName,
-) -> (D, Reply)
-    requires { site_name ≡ site }
-    ensures { (from to : Sourced) → EndsOn (λ given library. step_list bay library) from to
-        (seen_disk D.reads D.faults disk) (seen_disk D.reads D.faults result.0) result.1 }
+// Lists an opened library.
+fn list_opened<D: Disk + Drop>(alloc: Global, library: &Library<D>, bay: ServerName) -> Reply
+    requires { IsOpened D.reads D.may_leave D.moment D.left_since D.faults library.now }
+    ensures { (from to : Sourced) → EndsOn D.reads D.may_leave D.moment D.left_since D.faults (λ given. step_list bay) from to result library.now.start library.now.disk }
 {
-    match Library::open(alloc, disk) {
-        Ok(library) => {
-            let reply = tell(alloc, &library, bay);
-            (library.close(), reply)
-        }
-        Err((disk, fault)) => (disk, not_opened(site_name, fault)),
-    }
+    library.tells();
+    tell(alloc, library, bay)
 }
 
 /// Lists the library of a bay. It reads no folder, so its clause is of any.
 pub(crate) fn list<D: Disk + Drop>(alloc: Global, bay: ServerName, bays: &mut Vec<Bay<D>>) -> Reply
-    requires { IsSiteAlone (seen D.reads D.faults bays.old.items) }
-    ensures ends { (from to : Sourced) → EndsBy (λ given library. step_list bay library) from to
-        (seen D.reads D.faults bays.old.items) (seen D.reads D.faults bays.new.items) result }
-    ensures bays { SameBut site (seen D.reads D.faults bays.old.items) (seen D.reads D.faults bays.new.items) }
+    requires { IsSiteAlone bays.old.items }
+    ensures { (from to : Sourced) → OnSite (EndsOn D.reads D.may_leave D.moment D.left_since D.faults (λ given. step_list bay) from to result) bays.old.items bays.new.items }
 {
     let (name, disk) = taken(bays);
-    let (disk, reply) = list_disk(alloc, disk, bay, name);
-    put_back(bays, Bay { name, disk });
-    reply
+    match open_site(alloc, disk, name) {
+        Ok(library) => {
+            let reply = list_opened(alloc, &library, bay);
+            let disk = library.close();
+            put_back(bays, Bay { name, disk });
+            reply
+        }
+        Err((disk, reply)) => {
+            put_back(bays, Bay { name, disk });
+            reply
+        }
+    }
 }

@@ -1,17 +1,24 @@
 //! What a command answers.
 use crate::WordsFault;
-use cm_base::{List, PackageId, Place, ServerName, Version};
+use cm_base::{Hash, List, PackageId, Place, ServerName, Version};
 use cm_library::{JobRow, VersionRow};
+use cm_tree::FilePath;
 
 /// Why a command is refused.
 #[derive(Clone, Copy)]
 pub enum Refusal {
     /// 2: the site's library has opened a version of the package, this one last.
     PackageThere { last: Version },
+    /// 3: the site's library has never opened a version of the package.
+    NoPackage,
+    /// 4: the job is not unfinished in the bay's library.
+    NoJob,
     /// 7: the library has as many versions and unfinished jobs as it may.
     TooManyVersions,
     /// 8: the library's entries would pass their limit.
     TooManyEntries,
+    /// 9: the library has as many unfinished jobs as it may.
+    TooManyJobs,
     /// 10: the named bay is not handed in.
     NoBay { name: ServerName },
     /// 19: this path of the folder, from 0, is off the grammar of paths.
@@ -22,6 +29,8 @@ pub enum Refusal {
     TooManyFiles,
     /// 22: this file of the folder, from 0, is too long.
     FileTooLong { entry: u32 },
+    /// 28: the greatest version that was opened of the package is the greatest that there is.
+    VersionsSpent,
     /// 30: the library's job numbers are used up, or its log has no room for a job.
     Spent,
 }
@@ -39,6 +48,16 @@ pub enum Reply {
         version: Version,
         files: u32,
         bytes: u64,
+    },
+    /// The job was given up.
+    Dropped,
+    /// A file had other bytes when it was read again, up to the size that it had first.
+    Changed {
+        path: FilePath,
+        first: Hash,
+        first_size: u32,
+        second: Hash,
+        second_size: u32,
     },
     /// The versions and the unfinished jobs of a library.
     Versions {

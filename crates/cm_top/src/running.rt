@@ -1,11 +1,12 @@
 //! One command.
-ghost use Rattle.std.specs.Prelude.{◌<◌, ◌^◌, List};
-ghost use Rattle.cm_top.specs.Bays.{seen, site, SameBut, IsSiteAlone};
+ghost use Rattle.std.specs.Prelude.{◌<◌, ◌^◌};
+ghost use Rattle.cm_top.specs.Bays.{IsSiteAlone, OnSite};
 ghost use Rattle.cm_top.specs.Causes.{HasCauses};
-ghost use Rattle.cm_top.specs.Runs.{Ends, RunMeets, sunk, sourced};
+ghost use Rattle.cm_top.specs.Runs.{EndsOn, RunMeets, step, sunk, sourced};
 ghost use Rattle.cm_top.specs.Words.{texts};
 
-use crate::adding::add;
+use crate::adding::{add, update};
+use crate::dropping::drop_job;
 use crate::init::init;
 use crate::listing::list;
 use crate::show::show;
@@ -22,14 +23,14 @@ fn answer<F: Folder, D: Disk + Drop>(
     folder: &mut F,
     bays: &mut Vec<Bay<D>>,
 ) -> Reply
-    requires { IsSiteAlone (seen D.reads D.faults bays.old.items) }
-    ensures ends { Ends line (sourced F.shows F.faults folder.old) (sourced F.shows F.faults folder.new)
-        (seen D.reads D.faults bays.old.items) (seen D.reads D.faults bays.new.items) result }
-    ensures bays { SameBut site (seen D.reads D.faults bays.old.items) (seen D.reads D.faults bays.new.items) }
+    requires { IsSiteAlone bays.old.items }
+    ensures { OnSite (EndsOn D.reads D.may_leave D.moment D.left_since D.faults (step line) (sourced F.shows F.faults folder.old) (sourced F.shows F.faults folder.new) result) bays.old.items bays.new.items }
 {
     match line {
         Line::Init { names } => init(names.items(), bays),
         Line::Add { package } => add(alloc, package, folder, bays),
+        Line::Update { package } => update(alloc, package, folder, bays),
+        Line::Drop { bay, job } => drop_job(alloc, bay, job, bays),
         Line::List { bay } => list(alloc, bay, bays),
     }
 }
@@ -42,9 +43,8 @@ fn run_words<F: Folder, K: Sink, D: Disk + Drop>(
     out: &mut K,
     bays: &mut Vec<Bay<D>>,
 ) -> u8
-    requires { IsSiteAlone (seen D.reads D.faults bays.old.items) }
-    ensures { RunMeets (texts words.now) (sourced F.shows F.faults folder.old) (sourced F.shows F.faults folder.new)
-        (seen D.reads D.faults bays.old.items) (seen D.reads D.faults bays.new.items)
+    requires { IsSiteAlone bays.old.items }
+    ensures { RunMeets D.reads D.may_leave D.moment D.left_since D.faults (texts words.now) (sourced F.shows F.faults folder.old) (sourced F.shows F.faults folder.new) bays.old.items bays.new.items
         (sunk K.got K.faults out.old) (sunk K.got K.faults out.new) result }
 {
     match read_words(alloc, words) {
@@ -58,9 +58,11 @@ fn run_words<F: Folder, K: Sink, D: Disk + Drop>(
 
 /// Does the command that the words say, prints its text, and answers its status.
 ///
-/// There is one bay, `site`. Words that say no command change no disk, and their usage line is printed. Else the text and
-/// the status are those of the machine's step on the library that the site's bay was at entry, and the bay is the library
-/// after it, with the whole trees of its versions; or the run ends by a status of 3 to 6 with its cause.
+/// There is one bay, `site`. Words that say no command leave the bays as they are, and their usage line is printed. Else the text and the
+/// status are those of the machine's step on the library that the site's bay was at the entry, and the bay is the library after it; or the
+/// run ends by a status of 3 to 6 with its cause, and the bay is the library after a prefix of the step's changes. Where each image of the
+/// disk opened to some state at the entry, each image at any moment was one at the entry or opens to the library after such a prefix,
+/// with every file of its versions. Bytes change at places of a library alone, and no file is removed.
 pub fn run<S: Source, F: Folder, K: Sink, D: Disk + Drop>(
     alloc: Global,
     words: &[String],
@@ -70,13 +72,11 @@ pub fn run<S: Source, F: Folder, K: Sink, D: Disk + Drop>(
     bays: &mut Vec<Bay<D>>,
     _minute: u64,
 ) -> u8
-    requires alone { IsSiteAlone (seen D.reads D.faults bays.old.items) }
+    requires alone { IsSiteAlone bays.old.items }
     requires minute { _minute < 2 ^ 40 }
-    ensures meets { RunMeets (texts words.now) (sourced F.shows F.faults folder.old) (sourced F.shows F.faults folder.new)
-        (seen D.reads D.faults bays.old.items) (seen D.reads D.faults bays.new.items)
+    ensures meets { RunMeets D.reads D.may_leave D.moment D.left_since D.faults (texts words.now) (sourced F.shows F.faults folder.old) (sourced F.shows F.faults folder.new) bays.old.items bays.new.items
         (sunk K.got K.faults out.old) (sunk K.got K.faults out.new) result }
-    ensures causes { HasCauses (texts words.now) (sourced F.shows F.faults folder.old) (sourced F.shows F.faults folder.new)
-        (seen D.reads D.faults bays.old.items) (seen D.reads D.faults bays.new.items)
+    ensures causes { HasCauses D.reads D.may_leave D.moment D.left_since D.faults (texts words.now) (sourced F.shows F.faults folder.old) (sourced F.shows F.faults folder.new) bays.old.items bays.new.items
         (sunk K.got K.faults out.old) (sunk K.got K.faults out.new) result }
 {
     run_words(alloc, words, folder, out, bays)

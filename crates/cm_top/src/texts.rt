@@ -35,8 +35,11 @@ fn refused(alloc: Global, out: &mut Vec<u8>, refusal: Refusal) -> Result<(), All
             let last = last.number().to_string(alloc)?;
             say(out, &[b"refused", b"2", b"PackageThere", last.as_bytes()])
         }
+        Refusal::NoPackage => say(out, &[b"refused", b"3", b"NoPackage"]),
+        Refusal::NoJob => say(out, &[b"refused", b"4", b"NoJob"]),
         Refusal::TooManyVersions => say(out, &[b"refused", b"7", b"TooManyVersions"]),
         Refusal::TooManyEntries => say(out, &[b"refused", b"8", b"TooManyEntries"]),
+        Refusal::TooManyJobs => say(out, &[b"refused", b"9", b"TooManyJobs"]),
         Refusal::NoBay { name } => say(out, &[b"refused", b"10", b"NoBay", name.as_bytes()]),
         Refusal::BadPath { entry } => {
             let entry = entry.to_string(alloc)?;
@@ -51,6 +54,7 @@ fn refused(alloc: Global, out: &mut Vec<u8>, refusal: Refusal) -> Result<(), All
             let entry = entry.to_string(alloc)?;
             say(out, &[b"refused", b"22", b"FileTooLong", entry.as_bytes()])
         }
+        Refusal::VersionsSpent => say(out, &[b"refused", b"28", b"VersionsSpent"]),
         Refusal::Spent => say(out, &[b"refused", b"30", b"Spent"]),
     }
 }
@@ -141,12 +145,38 @@ fn reply(alloc: Global, out: &mut Vec<u8>, reply: &Reply) -> Result<(), AllocErr
                 ],
             )
         }
+        Reply::Dropped => say(out, &[b"dropped"]),
         Reply::Versions { versions, jobs } => {
             version_lines(alloc, out, versions.items())?;
             job_lines(alloc, out, jobs.items())
         }
         Reply::Refused { refusal } => refused(alloc, out, *refusal),
         Reply::Source => say(out, &[b"source"]),
+        Reply::Changed {
+            path,
+            first,
+            first_size,
+            second,
+            second_size,
+        } => {
+            let mut first_digits = [0; 64];
+            first.write(&mut first_digits);
+            let first_size = first_size.to_string(alloc)?;
+            let mut second_digits = [0; 64];
+            second.write(&mut second_digits);
+            let second_size = second_size.to_string(alloc)?;
+            say(
+                out,
+                &[
+                    b"changed",
+                    path.as_bytes(),
+                    &first_digits,
+                    first_size.as_bytes(),
+                    &second_digits,
+                    second_size.as_bytes(),
+                ],
+            )
+        }
         Reply::Disk { bay } => say(out, &[b"disk", bay.as_bytes()]),
         Reply::Memory => say(out, &[b"memory"]),
         Reply::NoLibrary { bay } => say(out, &[b"library", bay.as_bytes(), b"missing"]),
@@ -188,9 +218,9 @@ pub(crate) fn status_of(ended: &Ended) -> u8
             _ => 2,
         },
         Ended::Replied { reply } => match reply {
-            Reply::Made { .. } | Reply::Added { .. } | Reply::Versions { .. } => 0,
+            Reply::Made { .. } | Reply::Added { .. } | Reply::Dropped | Reply::Versions { .. } => 0,
             Reply::Refused { .. } => 1,
-            Reply::Source => 3,
+            Reply::Source | Reply::Changed { .. } => 3,
             Reply::Disk { .. } => 5,
             Reply::Memory => 6,
             Reply::NoLibrary { .. } | Reply::Unreadable { .. } => 7,

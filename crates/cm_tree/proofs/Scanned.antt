@@ -15,10 +15,7 @@ use Rattle.cm_tree.specs.Folders.{Shown, Stays, Turns, Tells}
 use Rattle.cm_tree.specs.Scans.{Scans, HasFault, Answers, scanned}
 use Rattle.cm_tree.specs.Taking.{HasTaken}
 use Rattle.cm_tree.specs.Walks.{JoinsTaken, IsHashOf}
-use Rattle.std.proofs.lemmas.Option.{slice_get-map}
-use Rattle.cm_tree.specs.declared.gathered.GatheredFile.{GatheredFile}
-use Rattle.cm_tree.specs.GatheredFiles.{file_of, files_of}
-use Rattle.cm_tree.proofs.Kept.{get_here, take_next, each_at}
+use Rattle.cm_tree.proofs.Kept.{get_here, each_at}
 use Rattle.cm_tree.proofs.Told.{told_answer}
 use Rattle.cm_tree.proofs.Walked.{Walked, walked_push, walked_stays, walked_agrees, walked_clean, walked_tree, length-push, file_paths-push, length_paths, file_good}
 
@@ -103,16 +100,3 @@ pub scans_told : (most_files most : ℕ) (shown : Shown) (r : Result (List Entry
     → (files : List File) → Tells shown files → Answers (λ entries. entries) r (scanned most_files most files)
 scans_told most_files most shown (Ok entries) ok err files t = told_answer most_files most shown manifest_of (Ok entries) (ok.tree, ok.entries_are, ok.gathers.agrees, ok.gathers.clean) tt files t
 scans_told most_files most shown (Err e) ok err files t = told_answer most_files most shown manifest_of (Err e) tt err files t
-
--- ---- files in memory
-
-pub files_next : (files : List GatheredFile) (n : ℕ) (f : GatheredFile) → n < length files → f ≡ get_or files n f → files_of (take (n + 1) files) ≡ files_of (take n files) ++ file_of f ∷ []
-files_next files n f lt is = ap (λ (fs : List GatheredFile). files_of fs) (take_next files n f lt is) ∙ map-append file_of (take n files) (f ∷ [])
-
-pub manifest_push : (files : List File) (file : File) → manifest_of (files ++ file ∷ []) ≡ manifest_of files ++ entry_of file ∷ []
-manifest_push files file = map-append entry_of files (file ∷ [])
-
-pub file_short : (files : List GatheredFile) (n : ℕ) (f : GatheredFile) → IsTree (files_of files) → n < length files → f ≡ get_or files n f → length f.bytes.items < 2 ^ 32
-file_short files n f tree lt is =
-    let at : slice_get (files_of files) n ≡ Some (file_of f) = slice_get-map file_of files n ∙ ap (λ (o : Option GatheredFile). option_map file_of o) (get_here files n f lt is) in
-    (each_at IsFile (files_of files) n (file_of f) tree.each at).size

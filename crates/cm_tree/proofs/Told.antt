@@ -6,7 +6,7 @@ use Rattle.cm_tree.specs.declared.scan_fault.ScanFault.{ScanFault}
 use Rattle.cm_tree.specs.declared.scan_fault.ScanFault.TheVariants.{Folder, TooManyFiles, BadPath, SamePath, FileTooLong, Memory}
 use Rattle.cm_tree.specs.Trees.{File, file_paths}
 use Rattle.cm_tree.specs.Folders.{Shown, Agrees, Tells}
-use Rattle.cm_tree.specs.Scans.{first_fault, unless_fault, gathered, Gathers, HasFault, Answers}
+use Rattle.cm_tree.specs.Scans.{first_fault, unless_fault, HasFault, Answers}
 use Rattle.cm_tree.specs.Walks.{AreBytes}
 
 same_files : (xs ys : List File) (now : ℕ → Option (List ℕ)) → file_paths xs ≡ file_paths ys
@@ -44,8 +44,3 @@ told_answer most_files most shown given (Err (BadPath k)) ok err files t = ap (�
 told_answer most_files most shown given (Err (SamePath k)) ok err files t = ap (λ o. unless_fault o (given files)) (first_is most_files most shown files t (Some (SamePath k)) err)
 told_answer most_files most shown given (Err (FileTooLong k)) ok err files t = ap (λ o. unless_fault o (given files)) (first_is most_files most shown files t (Some (FileTooLong k)) err)
 told_answer most_files most shown given (Err Memory) ok err files t = tt
-
-pub gathers_told : (most_files most : ℕ) (shown : Shown) (r : Result (List File) ScanFault) → IfOk r (λ tree. Gathers most_files most shown tree) → IfErr r (HasFault most_files most shown)
-    → (files : List File) → Tells shown files → Answers (λ tree. tree) r (gathered most_files most files)
-gathers_told most_files most shown (Ok tree) ok err files t = told_answer most_files most shown (λ (x : List File). x) (Ok tree) (tree, refl, ok.agrees, ok.clean) tt files t
-gathers_told most_files most shown (Err e) ok err files t = told_answer most_files most shown (λ (x : List File). x) (Err e) tt err files t

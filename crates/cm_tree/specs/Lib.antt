@@ -1,5 +1,4 @@
 pub mod Folders
-pub mod GatheredFiles
 pub mod HostFolders
 pub mod Manifests
 pub mod MemCalls

@@ -41,10 +41,6 @@ abbrev pub unless_fault : {A : Type 0} → Option ScanFault → A → Result A S
 unless_fault None x = Ok x
 unless_fault (Some fault) x = Err fault
 
--- a folder's files as a tree, or their first fault
-abbrev pub gathered : ℕ → ℕ → List File → Result (List File) ScanFault
-gathered most_files most_bytes files = unless_fault (first_fault most_files most_bytes files) files
-
 -- the manifest of a folder's files, or their first fault
 abbrev pub scanned : ℕ → ℕ → List File → Result (List Entry) ScanFault
 scanned most_files most_bytes files = unless_fault (first_fault most_files most_bytes files) (manifest_of files)

@@ -49,15 +49,20 @@ fn scan_of_room<F: Folder>(
     Ok(Manifest::of(entries))
 }
 
-/// The manifest of a folder, each file read once.
-fn walked<F: Folder>(
+/// Reads each file of a folder once, in pieces of 65,536 bytes, and gives their manifest, within these limits of their number, at most
+/// 20,000, and of the bytes of each. The path past the most is asked for first, and `TooManyFiles` comes exactly where it is there. Then the
+/// files are taken in order: `BadPath`, `SamePath`, `FileTooLong`. `Folder` comes only where the folder failed in this call, and `Memory`
+/// for want of memory.
+pub fn scan_within<F: Folder>(
     alloc: Global,
     folder: &mut F,
     most_files: u32,
     most_bytes: u32,
 ) -> Result<Manifest, ScanFault>
     requires { most_files ≤ 20000 }
+    // The manifest is that of the folder's files, as they read at the call, and none of them has a fault.
     ensures manifest { IfOk result (λ entries. Scans most_files most_bytes (F.shows folder.old) entries) }
+    // A fault of the files is their first.
     ensures fault { IfErr result (HasFault most_files most_bytes (F.shows folder.old)) }
     ensures read { OnOk result (WasRead (F.shows folder.old) (F.shows folder.new)) }
     ensures failed { OnErr result (MayBeRead (F.shows folder.old) (F.shows folder.new)) }
@@ -73,10 +78,7 @@ fn walked<F: Folder>(
     }
 }
 
-/// Reads each file of a folder once, in pieces of 65,536 bytes, and gives their manifest: at most 20,000 files of at most
-/// 4,294,967,295 bytes. Path 20,000 is asked for first, and `TooManyFiles` comes exactly where it is there. Then the files are
-/// taken in order: `BadPath`, `SamePath`, `FileTooLong`. `Folder` comes only where the folder failed in this call, and `Memory`
-/// for want of memory.
+/// The same within the limits of the product: at most 20,000 files of at most 4,294,967,295 bytes.
 pub fn scan<F: Folder>(alloc: Global, folder: &mut F) -> Result<Manifest, ScanFault>
     // The manifest is that of the folder's files, as they read at the call, and none of them has a fault.
     ensures manifest { IfOk result (λ entries. Scans 20000 4294967295 (F.shows folder.old) entries) }
@@ -89,5 +91,5 @@ pub fn scan<F: Folder>(alloc: Global, folder: &mut F) -> Result<Manifest, ScanFa
     ensures later { F.faults folder.old ≤ F.faults folder.new }
     ensures cause { IsErrOf result ScanFault.Folder → Rose (F.faults folder.old) (F.faults folder.new) }
 {
-    walked(alloc, folder, MOST_FILES, u32::MAX)
+    scan_within(alloc, folder, MOST_FILES, u32::MAX)
 }

@@ -4,12 +4,11 @@ ghost use Rattle.cm_base.specs.Causes.{Rose};
 ghost use Rattle.cm_tree.specs.Folders.{Stays, Turns};
 ghost use Rattle.cm_tree.specs.Paths.{is_file_path};
 ghost use Rattle.cm_tree.specs.Taking.{HasTaken};
-ghost use Rattle.cm_tree.specs.Walks.{MayTurn, JoinsTaken, IsPathFault, IsNextPath, AreBytes, IsHashOf, IsReadFault, IsRoomFault};
+ghost use Rattle.cm_tree.specs.Walks.{MayTurn, JoinsTaken, IsPathFault, IsNextPath, IsHashOf, IsReadFault, IsRoomFault};
 
 use crate::taken::Taken;
 use crate::{FilePath, Folder, ScanFault};
 use cm_base::{FileHasher, Hash};
-use std::alloc::Global;
 
 /// How many bytes are asked for at once.
 pub(crate) const PIECE: usize = 65_536;
@@ -65,36 +64,6 @@ pub(crate) fn next_path<F: Folder>(
             Err(fault) => Err(fault),
         },
         Err(_) => Err(ScanFault::Folder),
-    }
-}
-
-/// The bytes of a file, read to its end.
-pub(crate) fn whole_file<F: Folder>(
-    alloc: Global,
-    folder: &mut F,
-    n: u32,
-    most_bytes: u32,
-    piece: &mut [u8],
-) -> Result<Vec<u8>, ScanFault>
-    requires { 0 < length piece.old }
-    ensures bytes { IfOk result (λ file. AreBytes ((F.shows folder.old).now n) file.items) }
-    ensures few { IfOk result (λ file. length file.items ≤ most_bytes) }
-    ensures fault { IfErr result (IsReadFault most_bytes n ((F.shows folder.old).now n)) }
-    ensures read { OnOk result (Turns n true (F.shows folder.old) (F.shows folder.new)) }
-    ensures failed { OnErr result (MayTurn n (F.shows folder.old) (F.shows folder.new)) }
-    ensures later { F.faults folder.old ≤ F.faults folder.new }
-    ensures cause { IsErrOf result ScanFault.Folder → Rose (F.faults folder.old) (F.faults folder.new) }
-{
-    let mut file = Vec::new(alloc);
-    'pieces: loop {
-        match folder.read_at(n, file.len() as u64, piece) {
-            Ok(0) => return Ok(file),
-            Ok(count) => file.extend_from_slice(&piece[..count])?,
-            Err(_) => return Err(ScanFault::Folder),
-        }
-        if file.len() > most_bytes as usize {
-            return Err(ScanFault::FileTooLong { entry: n });
-        }
     }
 }
 

@@ -1,11 +1,15 @@
 //! What the tests hand to `run`.
 use cm_base::{MemSink, MemSource, Memory, Place, ServerName};
-use cm_disk::Disk;
+use cm_disk::{Disk, MemDisk};
 use cm_top::{Bay, run};
 use cm_tree::{Folder, MemFolder};
 use std::alloc::Global;
+use std::mem;
 use std::process::Abort;
 use std::test::Fail;
+
+/// Files, each a path and its bytes.
+pub(crate) type Files = &'static [(&'static [u8], &'static [u8])];
 
 /// How a run of these words ended over a site's disk and a folder: the status, the text, and the disk. The sink takes three
 /// bytes a call, and its calls in `fail` fail. An Err is want of memory.
@@ -55,17 +59,59 @@ pub(crate) fn ran<D: Disk + Drop>(
     ran_over(rt, alloc, words, &mut folder, disk, fail)
 }
 
-/// A folder of these files, each a path and its bytes, whose calls in `fail` fail.
+/// The status and the text of these words over a disk and a folder of these files. A file that was read to its end has then the
+/// bytes that `later` has for its path.
+pub(crate) fn answered(
+    rt: &impl Abort,
+    alloc: Global,
+    words: &[&str],
+    files: Files,
+    later: Files,
+    disk: &mut MemDisk,
+) -> Result<(u8, Vec<u8>), Memory> {
+    let taken = mem::replace(disk, MemDisk::new(alloc, Vec::new(alloc))?);
+    let files = pairs_of(alloc, files)?;
+    let mut folder = MemFolder::new(alloc, files, pairs_of(alloc, later)?, Vec::new(alloc))?;
+    let (status, text, back) = tried_over(rt, alloc, words, &mut folder, taken, &[])?;
+    *disk = back;
+    Ok((status, text))
+}
+
+fn pairs_of(alloc: Global, files: &[(&[u8], &[u8])]) -> Result<Vec<(Vec<u8>, Vec<u8>)>, Memory> {
+    let mut pairs = Vec::new(alloc);
+    for (path, bytes) in files {
+        pairs.push((path.to_vec(alloc)?, bytes.to_vec(alloc)?))?;
+    }
+    Ok(pairs)
+}
+
+/// A folder of these files, whose calls in `fail` fail.
 pub(crate) fn folder_of(
     alloc: Global,
     files: &[(&[u8], &[u8])],
     fail: &[u64],
 ) -> Result<MemFolder, Fail> {
-    let mut pairs = Vec::new(alloc);
-    for (path, bytes) in files {
-        pairs.push((path.to_vec(alloc)?, bytes.to_vec(alloc)?))?;
-    }
-    Ok(MemFolder::new(alloc, pairs, Vec::new(alloc), fail.to_vec(alloc)?)?)
+    let files = pairs_of(alloc, files)?;
+    Ok(MemFolder::new(alloc, files, Vec::new(alloc), fail.to_vec(alloc)?)?)
+}
+
+/// A disk on which `init` has made a library.
+pub(crate) fn made(rt: &impl Abort, alloc: Global) -> Result<MemDisk, Fail> {
+    let disk = MemDisk::new(alloc, Vec::new(alloc))?;
+    let (_, _, disk) = ran(rt, alloc, &["init"], disk, &[])?;
+    Ok(disk)
+}
+
+/// The status, the text and the disk of these words over a folder of these files.
+pub(crate) fn ran_with(
+    rt: &impl Abort,
+    alloc: Global,
+    words: &[&str],
+    files: &[(&[u8], &[u8])],
+    disk: MemDisk,
+) -> Result<(u8, Vec<u8>, MemDisk), Fail> {
+    let mut folder = folder_of(alloc, files, &[])?;
+    ran_over(rt, alloc, words, &mut folder, disk, &[])
 }
 
 /// Whether the place on a disk has exactly these bytes.
@@ -80,14 +126,22 @@ pub(crate) fn holds<D: Disk>(disk: &mut D, place: &[u8], bytes: &[u8]) -> bool {
     count < 512 && &buf[..count] == bytes && disk.size(&place) == Ok(Some(bytes.len() as u64))
 }
 
+/// Makes the place on a disk these bytes, if there are any, and makes that durable. False where the disk failed.
+pub(crate) fn is_laid<D: Disk>(disk: &mut D, place: &Place, bytes: Option<&[u8]>) -> bool {
+    if disk.remove(place).is_err() {
+        return false;
+    }
+    if let Some(bytes) = bytes {
+        if bytes.len() > 1_000_000 || disk.write_at(place, 0, bytes).is_err() {
+            return false;
+        }
+    }
+    disk.sync(place).is_ok()
+}
+
 /// Makes the place on a disk these bytes, if there are any.
 pub(crate) fn lay<D: Disk>(disk: &mut D, place: &[u8], bytes: Option<&[u8]>) -> Result<(), Fail> {
     let place = Place::read(place).ok_or("a place")?;
-    disk.remove(&place)?;
-    if let Some(bytes) = bytes {
-        if bytes.len() < 65536 {
-            disk.write_at(&place, 0, bytes)?;
-        }
-    }
+    is_laid(disk, &place, bytes).then_some(()).ok_or("a disk")?;
     Ok(())
 }

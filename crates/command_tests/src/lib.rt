@@ -6,12 +6,28 @@
 #[cfg(test)]
 mod add;
 #[cfg(test)]
+mod cases;
+#[cfg(test)]
+mod changed;
+#[cfg(test)]
+mod dropping;
+#[cfg(test)]
 mod fakes;
 #[cfg(test)]
+mod faults;
+#[cfg(test)]
 mod init;
+#[cfg(test)]
+mod limits;
 #[cfg(test)]
 mod list;
 #[cfg(test)]
 mod stops;
 #[cfg(test)]
+mod three;
+#[cfg(test)]
 mod unreadable;
+#[cfg(test)]
+mod update;
+#[cfg(test)]
+mod word_table;

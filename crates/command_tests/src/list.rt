@@ -1,6 +1,6 @@
 //! The command `list`.
-use crate::add::{LOG, MANIFEST};
 use crate::fakes::{lay, ran};
+use crate::three::{LOG, MANIFEST};
 use cm_base::Place;
 use cm_disk::{Disk, MemDisk};
 use std::test::Fail;

@@ -1,7 +1,7 @@
 //! Manifests and folders by values from outside.
 use cm_base::Hash;
 use cm_tree::{
-    FilePath, Folder, HostFolder, Manifest, MemFolder, ScanFault, TreeFault, gather, scan,
+    FilePath, Folder, HostFolder, Manifest, MemFolder, ScanFault, TreeFault, scan, scan_within,
 };
 use std::test::Fail;
 
@@ -95,22 +95,12 @@ fn read_and_copied(rt: &HostRuntime, bytes: &[u8]) -> Result<Vec<u8>, Fail> {
     spelled(rt, &copy)
 }
 
-// The spelling of the manifest of what is gathered of the three files, which are as they were handed in.
-fn gathered(rt: &HostRuntime) -> Result<Vec<u8>, Fail> {
-    let tree = gather(rt.alloc(), &mut three(rt, &[])?, 3, 5)
-        .ok()
-        .ok_or("no tree")?;
-    let files = tree.files();
-    let [first, _, last] = files else {
-        return Err(Fail::new("not three files"));
-    };
-    if first.path.as_bytes() != b"a.txt".as_slice()
-        || last.bytes.as_slice() != b"hello".as_slice()
-    {
-        return Err(Fail::new("other files"));
+// The spelling of the manifest of three files within the least limits that they fit in.
+fn scanned_within(rt: &HostRuntime) -> Result<Vec<u8>, Fail> {
+    match scan_within(rt.alloc(), &mut three(rt, &[])?, 3, 5) {
+        Ok(manifest) => spelled(rt, &manifest),
+        Err(_) => Err(Fail::new("no manifest")),
     }
-    let manifest = tree.manifest(rt.alloc()).ok().ok_or("no memory")?;
-    spelled(rt, &manifest)
 }
 
 #[test]
@@ -119,7 +109,7 @@ fn three_files(rt: HostRuntime) -> Result<(), Fail> {
     assert_eq!(rt; bytes.len(), 140);
     assert!(rt; scanned(&rt, &mut three(&rt, &[])?)? == bytes);
     assert!(rt; read_and_copied(&rt, &bytes)? == bytes);
-    assert!(rt; gathered(&rt)? == bytes);
+    assert!(rt; scanned_within(&rt)? == bytes);
     Ok(())
 }
 
@@ -192,7 +182,7 @@ fn forms_of_paths(rt: HostRuntime) {
     }
 }
 
-// Files that are gathered with these limits, or scanned where there are none; how many calls of the folder their answer comes
+// Files that are scanned within these limits, or those of the product where there are none; how many calls of the folder their answer comes
 // after, and that answer, where no call fails. A call more fails after it; each call up to there gives a fault of the folder.
 type Walk<'a> = (
     &'a [(&'a [u8], &'a [u8])],
@@ -207,7 +197,7 @@ fn fault_at(rt: &HostRuntime, walk: &Walk, call: u64) -> Result<Option<ScanFault
     Ok(match limits {
         None => scan(rt.alloc(), &mut folder).err(),
         Some((most_files, most_bytes)) => {
-            gather(rt.alloc(), &mut folder, most_files.min(20_000), most_bytes).err()
+            scan_within(rt.alloc(), &mut folder, most_files.min(20_000), most_bytes).err()
         }
     })
 }
@@ -261,13 +251,22 @@ fn later_bytes_come_once_a_file_was_read(rt: HostRuntime) -> Result<(), Fail> {
     let files: [(&[u8], &[u8]); 3] = [(b"a", b"one"), (b"b", b"two"), (b"a", b"again")];
     let later: [(&[u8], &[u8]); 1] = [(b"a", b"other")];
     let mut folder = folder_of(&rt, &files, &later, &[])?;
-    for bytes in [b"one".as_slice(), b"other".as_slice()] {
-        let tree = gather(rt.alloc(), &mut folder, 2, 5).ok().ok_or("no tree")?;
-        let files = tree.files();
-        assert_eq!(rt; files.len(), 2);
-        assert_eq!(rt; files[0].bytes.as_slice(), bytes);
-        assert_eq!(rt; files[1].bytes.as_slice(), b"two".as_slice());
-    }
+    let first = scanned(&rt, &mut folder)?;
+    let second = scanned(&rt, &mut folder)?;
+    assert!(rt;
+        first
+            == scanned(
+                &rt,
+                &mut folder_of(&rt, &[(b"a", b"one"), (b"b", b"two")], &[], &[])?
+            )?
+    );
+    assert!(rt;
+        second
+            == scanned(
+                &rt,
+                &mut folder_of(&rt, &[(b"a", b"other"), (b"b", b"two")], &[], &[])?
+            )?
+    );
     Ok(())
 }
 

@@ -1,12 +1,32 @@
-use Rattle.std.proofs.Common.{List, [], ◌∷◌, ◌++◌, ◌∙◌, ap}
-use Rattle.cm_top.specs.Machine.{step_add}
-use Rattle.cm_top.specs.Runs.{sourced}
-use Rattle.cm_top.specs.declared.bay.Bay.{Bay}
-use Rattle.cm_top.proofs.OneBay.{ends_taken}
+use Rattle.std.proofs.Common.{sym, subst}
+use Rattle.cm_pkglib.specs.Rows.{last_of}
+use Rattle.cm_top.specs.Machine.{add_behind, step_add}
+use Rattle.cm_top.specs.Runs.{EndsOn, sourced}
+use Rattle.cm_top.proofs.OneBay.{put_back_on}
 use Rattle.cm_top.proofs.adding.add.Goals as goal
 
-pub returns-clause-ends : goal.returns-clause-ends
-returns-clause-ends g c =
-    ends_taken g.D.Disk.reads g.D.Disk.faults (step_add c.args.«package») (sourced g.F.Folder.shows g.F.Folder.faults c.args.folder.now) (sourced g.F.Folder.shows g.F.Folder.faults c.add_disk-disk.new.folder)
-    c.args.bays.now.items c.put_back.new.bays.items c.taken-name.result.0 c.taken-name.result.1 c.add_disk-disk.result.0 c.add_disk-disk.result.1
-    c.taken-name.ensures.name c.taken-name.ensures.bay (c.put_back.ensures ∙ ap (λ (items : List (Bay _)). items ++ record { name = c.taken-name.result.0; disk = c.add_disk-disk.result.0 } ∷ []) c.taken-name.ensures.none) c.add_disk-disk.ensures
+pub returns-in-Ok : goal.returns-in-Ok
+returns-in-Ok g c =
+    let d = g.D.Disk in
+    let f = g.F.Folder in
+    let id = c.args.«package» in
+    let library = c.in-Ok.library in
+    let from = sourced f.shows f.faults c.args.folder.now in
+    let to = sourced f.shows f.faults c.add_opened-reply.new.folder in
+    put_back_on (EndsOn d.reads d.may_leave d.moment d.left_since d.faults (step_add id) from to c.add_opened-reply.result)
+    c.args.bays.now.items c.taken-name.new.bays.items c.put_back.new.bays.items c.taken-name.result.0 c.taken-name.result.1 c.close-disk.result
+    c.taken-name.ensures.bay c.taken-name.ensures.none c.put_back.ensures c.taken-name.ensures.name
+    (subst (λ (disk : g.row.D.Denot). EndsOn d.reads d.may_leave d.moment d.left_since d.faults (step_add id) from to c.add_opened-reply.result disk c.close-disk.result) c.in-Ok.ensures.start
+    (subst (λ (disk : g.row.D.Denot). EndsOn d.reads d.may_leave d.moment d.left_since d.faults (step_add id) from to c.add_opened-reply.result library.start disk) (sym c.close-disk.ensures)
+    c.add_opened-reply.ensures))
+
+pub returns-in-Err : goal.returns-in-Err
+returns-in-Err g c =
+    let d = g.D.Disk in
+    let f = g.F.Folder in
+    let id = c.args.«package» in
+    let from = sourced f.shows f.faults c.args.folder.now in
+    put_back_on (EndsOn d.reads d.may_leave d.moment d.left_since d.faults (step_add id) from from c.in-Err.reply)
+    c.args.bays.now.items c.taken-name.new.bays.items c.put_back-in-Err.new.bays.items c.taken-name.result.0 c.taken-name.result.1 c.in-Err.disk
+    c.taken-name.ensures.bay c.taken-name.ensures.none c.put_back-in-Err.ensures c.taken-name.ensures.name
+    (c.in-Err.ensures.refused (λ given state. add_behind id given state (last_of id state.lasts)) from from)

@@ -1,10 +1,24 @@
-use Rattle.std.proofs.Common.{List, [], ◌∷◌, ◌++◌, ◌∙◌, ap}
-use Rattle.cm_top.specs.Machine.{step_list}
-use Rattle.cm_top.specs.declared.bay.Bay.{Bay}
-use Rattle.cm_top.proofs.OneBay.{ends_taken}
+use Rattle.std.proofs.Common.{sym, subst}
+use Rattle.cm_top.specs.Machine.{told, listed, step_list}
+use Rattle.cm_top.specs.Runs.{EndsOn}
+use Rattle.cm_top.proofs.OneBay.{put_back_on}
 use Rattle.cm_top.proofs.listing.list.Goals as goal
 
-pub returns-clause-ends : goal.returns-clause-ends
-returns-clause-ends g c = λ from to.
-    ends_taken g.D.Disk.reads g.D.Disk.faults (λ given library. step_list c.args.bay library) from to c.args.bays.now.items c.put_back.new.bays.items c.taken-name.result.0 c.taken-name.result.1 c.list_disk-disk.result.0 c.list_disk-disk.result.1
-    c.taken-name.ensures.name c.taken-name.ensures.bay (c.put_back.ensures ∙ ap (λ (items : List (Bay _)). items ++ record { name = c.taken-name.result.0; disk = c.list_disk-disk.result.0 } ∷ []) c.taken-name.ensures.none) (c.list_disk-disk.ensures from to)
+pub returns-in-Ok : goal.returns-in-Ok
+returns-in-Ok g c = λ from to.
+    let d = g.D.Disk in
+    let library = c.in-Ok.library in
+    put_back_on (EndsOn d.reads d.may_leave d.moment d.left_since d.faults (λ given. step_list c.args.bay) from to c.list_opened-reply.result)
+    c.args.bays.now.items c.taken-name.new.bays.items c.put_back.new.bays.items c.taken-name.result.0 c.taken-name.result.1 c.close-disk.result
+    c.taken-name.ensures.bay c.taken-name.ensures.none c.put_back.ensures c.taken-name.ensures.name
+    (subst (λ (disk : g.row.D.Denot). EndsOn d.reads d.may_leave d.moment d.left_since d.faults (λ given. step_list c.args.bay) from to c.list_opened-reply.result disk c.close-disk.result) c.in-Ok.ensures.start
+    (subst (λ (disk : g.row.D.Denot). EndsOn d.reads d.may_leave d.moment d.left_since d.faults (λ given. step_list c.args.bay) from to c.list_opened-reply.result library.start disk) (sym c.close-disk.ensures)
+    (c.list_opened-reply.ensures from to)))
+
+pub returns-in-Err : goal.returns-in-Err
+returns-in-Err g c = λ from to.
+    let d = g.D.Disk in
+    put_back_on (EndsOn d.reads d.may_leave d.moment d.left_since d.faults (λ given. step_list c.args.bay) from to c.in-Err.reply)
+    c.args.bays.now.items c.taken-name.new.bays.items c.put_back-in-Err.new.bays.items c.taken-name.result.0 c.taken-name.result.1 c.in-Err.disk
+    c.taken-name.ensures.bay c.taken-name.ensures.none c.put_back-in-Err.ensures c.taken-name.ensures.name
+    (c.in-Err.ensures.refused (λ given state. told (listed c.args.bay state)) from to)

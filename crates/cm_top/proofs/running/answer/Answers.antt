@@ -1,28 +1,43 @@
 use Rattle.std.proofs.Common.{ℕ, List, sym, ◌∙◌, ap, subst}
-use Rattle.cm_top.specs.Bays.{seen}
-use Rattle.cm_top.specs.Runs.{Ends, sourced}
+use Rattle.cm_top.specs.Bays.{OnSite}
+use Rattle.cm_top.specs.Runs.{EndsOn, sourced, step}
 use Rattle.cm_top.specs.declared.line.Line.{Line}
 use Rattle.cm_top.specs.declared.line.Line.TheVariants.{Init}
 use Rattle.cm_top.proofs.running.answer.Goals as goal
 
-pub returns-in-Init-clause-ends : goal.returns-in-Init-clause-ends
-returns-in-Init-clause-ends g c =
+pub returns-in-Init : goal.returns-in-Init
+returns-in-Init g c =
+    let d = g.D.Disk in
     let folder = sourced g.F.Folder.shows g.F.Folder.faults c.args.folder.now in
-    let bays = seen g.D.Disk.reads g.D.Disk.faults c.args.bays.now.items in
-    let bays' = seen g.D.Disk.reads g.D.Disk.faults c.init.new.bays.items in
-    subst (λ (line : Line). Ends line folder folder bays bays' c.init.result) (ap (λ (names : List (List ℕ)). Init names) c.items.ensures ∙ sym c.in-Init.is) (c.init.ensures.ends folder folder)
+    subst (λ (line : Line). OnSite (EndsOn d.reads d.may_leave d.moment d.left_since d.faults (step line) folder folder c.init.result) c.args.bays.now.items c.init.new.bays.items)
+    (ap (λ (names : List (List ℕ)). Init names) c.items.ensures ∙ sym c.in-Init.is) (c.init.ensures folder folder)
 
-pub returns-in-List-clause-ends : goal.returns-in-List-clause-ends
-returns-in-List-clause-ends g c =
+pub returns-in-Add : goal.returns-in-Add
+returns-in-Add g c =
+    let d = g.D.Disk in
+    let from = sourced g.F.Folder.shows g.F.Folder.faults c.args.folder.now in
+    let to = sourced g.F.Folder.shows g.F.Folder.faults c.add.new.folder in
+    subst (λ (line : Line). OnSite (EndsOn d.reads d.may_leave d.moment d.left_since d.faults (step line) from to c.add.result) c.args.bays.now.items c.add.new.bays.items)
+    (sym c.in-Add.is) c.add.ensures
+
+pub returns-in-Update : goal.returns-in-Update
+returns-in-Update g c =
+    let d = g.D.Disk in
+    let from = sourced g.F.Folder.shows g.F.Folder.faults c.args.folder.now in
+    let to = sourced g.F.Folder.shows g.F.Folder.faults c.update.new.folder in
+    subst (λ (line : Line). OnSite (EndsOn d.reads d.may_leave d.moment d.left_since d.faults (step line) from to c.update.result) c.args.bays.now.items c.update.new.bays.items)
+    (sym c.in-Update.is) c.update.ensures
+
+pub returns-in-Drop : goal.returns-in-Drop
+returns-in-Drop g c =
+    let d = g.D.Disk in
     let folder = sourced g.F.Folder.shows g.F.Folder.faults c.args.folder.now in
-    let bays = seen g.D.Disk.reads g.D.Disk.faults c.args.bays.now.items in
-    let bays' = seen g.D.Disk.reads g.D.Disk.faults c.list.new.bays.items in
-    subst (λ (line : Line). Ends line folder folder bays bays' c.list.result) (sym c.in-List.is) (c.list.ensures.ends folder folder)
+    subst (λ (line : Line). OnSite (EndsOn d.reads d.may_leave d.moment d.left_since d.faults (step line) folder folder c.drop_job.result) c.args.bays.now.items c.drop_job.new.bays.items)
+    (sym c.in-Drop.is) (c.drop_job.ensures folder folder)
 
-pub returns-in-Add-clause-ends : goal.returns-in-Add-clause-ends
-returns-in-Add-clause-ends g c =
-    let old = sourced g.F.Folder.shows g.F.Folder.faults c.args.folder.now in
-    let new = sourced g.F.Folder.shows g.F.Folder.faults c.add.new.folder in
-    let bays = seen g.D.Disk.reads g.D.Disk.faults c.args.bays.now.items in
-    let bays' = seen g.D.Disk.reads g.D.Disk.faults c.add.new.bays.items in
-    subst (λ (line : Line). Ends line old new bays bays' c.add.result) (sym c.in-Add.is) c.add.ensures.ends
+pub returns-in-List : goal.returns-in-List
+returns-in-List g c =
+    let d = g.D.Disk in
+    let folder = sourced g.F.Folder.shows g.F.Folder.faults c.args.folder.now in
+    subst (λ (line : Line). OnSite (EndsOn d.reads d.may_leave d.moment d.left_since d.faults (step line) folder folder c.list.result) c.args.bays.now.items c.list.new.bays.items)
+    (sym c.in-List.is) (c.list.ensures folder folder)

@@ -11,7 +11,7 @@ use Rattle.cm_state.specs.Opens.{OpensOr, StandsOr, EachOpensSome}
 use Rattle.cm_contents.specs.Seals.{SealsNeeded, AreVersionsSealed}
 use Rattle.cm_library.specs.Kept.{Seen, pending_in, AreSealsSure, AreSealsSureSince}
 use Rattle.cm_library.specs.Started.{AreStarted}
-use Rattle.cm_library.proofs.FilledJob.{named_sealed}
+use Rattle.cm_library.proofs.NamedSealed.{named_sealed}
 use Rattle.cm_library.proofs.Keeps.{kept_files, kept_stands}
 use Rattle.cm_library.proofs.Sure.{kept_opens}
 use Rattle.cm_library.proofs.library.Library.tells.Goals as goal

@@ -1,0 +1,12 @@
+pub mod Began
+pub mod Ended
+pub mod Fewer
+pub mod Filled
+pub mod FirstChange
+pub mod FirstNumbers
+pub mod Going
+pub mod Held
+pub mod Limits
+pub mod Others
+pub mod Reread
+pub mod Scanned

@@ -1,0 +1,5 @@
+pub mod Ending
+pub mod Filling
+pub mod Firsts
+pub mod Intake
+pub mod Readings

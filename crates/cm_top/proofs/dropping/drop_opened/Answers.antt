@@ -1,0 +1,57 @@
+use Rattle.std.proofs.Common.{◌≡◌, Bool, true, false, if◌then◌else◌, Err, sym, ◌∙◌, ap, subst}
+use Rattle.std.specs.Str.{bytes_eq}
+use Rattle.cm_state.specs.declared.fault.LibFault.{LibFault}
+use Rattle.cm_state.specs.declared.fault.LibFault.TheVariants.{Disk as DiskFault}
+use Rattle.cm_top.specs.Bays.{site}
+use Rattle.cm_top.specs.Machine.{told, drop_in}
+use Rattle.cm_top.specs.declared.reply.Reply.TheVariants.{Refused}
+use Rattle.cm_top.specs.declared.reply.Refusal.TheVariants.{NoBay}
+use Rattle.cm_top.proofs.DropEnds.{is_site, ends_dropped, ends_failed, ends_missing}
+use Rattle.cm_top.proofs.OpenedEnds.{ends_stay}
+use Rattle.cm_top.proofs.dropping.drop_opened.Goals as goal
+
+pub returns-then-ne : goal.returns-then-ne
+returns-then-ne g c = λ from to.
+    let d = g.D.Disk in
+    let library = c.args.library.now in
+    let told_now = c.tells.ensures in
+    let other = is_site c.args.bay c.as_bytes.result.now c.as_slice.result.now c.ne.result true c.as_bytes.ensures c.as_slice.ensures c.ne.ensures c.if-ne.true in
+    ends_stay d.reads d.may_leave d.moment d.left_since d.faults library c.requires.opened (record { files = told_now.files; stands = told_now.stands; opens = told_now.opens }) (λ files left. g.met.D.Disk.only_now library.disk files left) from to
+    (λ given state. if bytes_eq c.args.bay site then drop_in c.args.job state else told (Refused (NoBay c.args.bay))) (Refused (NoBay c.args.bay))
+    (λ given. ap (λ (b : Bool). if b then drop_in c.args.job library.state else told (Refused (NoBay c.args.bay))) other) tt
+
+pub returns-in-Ok : goal.returns-in-Ok
+returns-in-Ok g c = λ from to.
+    let d = g.D.Disk in
+    let library = c.args.library.now in
+    let now = c.drop_job-dropped.new.self in
+    let done = c.drop_job-dropped.ensures in
+    let told_now = c.tells-2.ensures in
+    let named = is_site c.args.bay c.as_bytes.result.now c.as_slice.result.now c.ne.result false c.as_bytes.ensures c.as_slice.ensures c.ne.ensures c.if-ne.false in
+    ends_dropped d.reads d.may_leave d.moment d.left_since d.faults library now c.requires.opened c.args.job c.drop_job-dropped.result done.call c.args.bay done.opens done.places
+    (record { files = told_now.files; stands = told_now.stands; opens = told_now.opens }) named from to c.in-Ok.field-0 c.in-Ok.is
+
+pub returns-in-NoJob : goal.returns-in-NoJob
+returns-in-NoJob g c = λ from to.
+    let d = g.D.Disk in
+    let library = c.args.library.now in
+    let now = c.drop_job-dropped.new.self in
+    let done = c.drop_job-dropped.ensures in
+    let told_now = c.tells-2.ensures in
+    let named = is_site c.args.bay c.as_bytes.result.now c.as_slice.result.now c.ne.result false c.as_bytes.ensures c.as_slice.ensures c.ne.ensures c.if-ne.false in
+    let stays = c.in-Err.ensures.unchanged c.requires.opened.settled (λ (e : c.in-Err.fault ≡ DiskFault). cc (sym c.in-NoJob.is ∙ e)) in
+    ends_missing d.reads d.may_leave d.moment d.left_since d.faults library now c.requires.opened c.args.job c.drop_job-dropped.result done.call c.args.bay done.opens done.places
+    (record { files = told_now.files; stands = told_now.stands; opens = told_now.opens }) named from to (subst (λ (f : LibFault). c.drop_job-dropped.result ≡ Err f) c.in-NoJob.is c.in-Err.is) stays (λ files left. g.met.D.Disk.only_now now.disk files left)
+
+pub returns-in-Disk : goal.returns-in-Disk
+returns-in-Disk g c = λ from to.
+    let d = g.D.Disk in
+    let library = c.args.library.now in
+    let now = c.drop_job-dropped.new.self in
+    let done = c.drop_job-dropped.ensures in
+    let told_now = c.tells-2.ensures in
+    let named = is_site c.args.bay c.as_bytes.result.now c.as_slice.result.now c.ne.result false c.as_bytes.ensures c.as_slice.ensures c.ne.ensures c.if-ne.false in
+    let failed = subst (λ (f : LibFault). c.drop_job-dropped.result ≡ Err f) c.in-Disk.is c.in-Err.is in
+    let ends = ends_failed d.reads d.may_leave d.moment d.left_since d.faults library now c.requires.opened c.args.job c.drop_job-dropped.result done.call c.args.bay done.opens done.places
+    (record { files = told_now.files; stands = told_now.stands; opens = told_now.opens }) named from to failed (λ files is. g.met.D.Disk.as_it_reads now.disk files is) (done.cause failed) in
+    (c.requires.named, ends.1, ends.2)
