@@ -1,6 +1,6 @@
 -- How often the manifests of a state name a hash, before and after a change.
 use Rattle.std.proofs.Common.{◌≡◌, inl, inr, ℕ, suc, zero, ◌+◌, ◌-◌, ◌*◌, ◌<◌, ◌≤◌, ◌==◌, Bool, true, false, true≢false, cond, List, [], ◌∷◌, ◌++◌, length, take, get_or, map, sum_by, refl, sym, ◌∙◌, ap, subst, arith, add-one}
-use Rattle.std.specs.Prelude.{Result, Ok, Err, OnErr, ◌≢◌, Option, None, Some, option_map, find, not, is_some, ◌||◌, Contains}
+use Rattle.std.specs.Prelude.{Result, Ok, Err, OnErr, ◌≢◌, Option, None, Some, option_map, unwrap_or, find, not, is_some, ◌||◌, Contains}
 use Rattle.std.specs.List.{AllByRecursion, flat_map, list_any}
 use Rattle.std.specs.Ordering.{nat_cmp}
 use Rattle.std.specs.Str.{bytes_eq}
@@ -32,7 +32,7 @@ use Rattle.cm_pkglib.proofs.Orders.{key_of, key_total, is_of-version_cmp, less_f
 use Rattle.cm_pkglib.proofs.Steps.{when_true}
 use Rattle.cm_pkglib.proofs.Times.{seal_more}
 use Rattle.cm_tree.specs.declared.entry.Entry.{Entry}
-use Rattle.cm_state.specs.State.{Held, State, held_of, rows_of, with_held, with_done, without_job, without_version}
+use Rattle.cm_state.specs.State.{Held, State, held_of, held_by_job, rows_of, with_held, with_done, without_job, without_version}
 use Rattle.cm_state.specs.Changes.{StateChange, Begun, Finished, Dropped, Removed, changed}
 use Rattle.cm_state.specs.Needed.{has_hash, is_named, is_needed}
 use Rattle.cm_state.proofs.ImagesOpen.{done_more}
@@ -394,36 +394,48 @@ counted_with counts s count small small_jobs seals unnamed = record {
     by hash sealed zero none = absurd (sealed (unnamed hash none))
     by hash sealed (suc n) some = let h = count hash in needed_of hash s (omega (arith, some, h))
 
--- the manifest that is found for a job, and for a version
-abbrev entries_of : Find → Option PkgRow → List Entry
-entries_of f None = []
-entries_of f (Some row) = f row.package row.version
+-- the manifest of what is held
+abbrev held_entries : Option Held → Option (List Entry)
+held_entries found = option_map (λ (held : Held). held.manifest) found
 
-pub job_entries : (f : Find) (job : ℕ) (rows : Rows) (o : Option PkgRow) → row_of_job job rows.jobs ≡ o → entries_of f o ≡ job_manifest job (state_with f rows)
-job_entries f job rows o is =
-    ap (entries_of f) (sym is)
+-- the manifest that is found for a row
+abbrev row_entries : Find → Option PkgRow → Option (List Entry)
+row_entries f found = option_map (λ (row : PkgRow). f row.package row.version) found
+
+-- the manifest of an unfinished job is the one that is found for its row
+pub job_held : (f : Find) (job : ℕ) (rows : Rows) (o : Option PkgRow) → row_of_job job rows.jobs ≡ o → row_entries f o ≡ held_entries (held_by_job job (state_with f rows).jobs)
+job_held f job rows o is =
+    ap (row_entries f) (sym is)
     ∙ by (find (λ (u : ℕ × PkgRow). u.0 == job) rows.jobs)
-    ∙ ap (λ (o : Option (ℕ × Held)). manifest_or_none (option_map (λ (u : ℕ × Held). u.1) o)) (sym (find_map (job_held_with f) (λ (u : ℕ × PkgRow). u.0 == job) (λ (u : ℕ × Held). u.0 == job) (λ u. refl) rows.jobs))
+    ∙ ap (λ (o : Option (ℕ × Held)). held_entries (option_map (λ (u : ℕ × Held). u.1) o)) (sym (find_map (job_held_with f) (λ (u : ℕ × PkgRow). u.0 == job) (λ (u : ℕ × Held). u.0 == job) (λ u. refl) rows.jobs))
   where
-    by : (o : Option (ℕ × PkgRow)) → entries_of f (option_map (λ (u : ℕ × PkgRow). u.1) o) ≡ manifest_or_none (option_map (λ (u : ℕ × Held). u.1) (option_map (job_held_with f) o))
+    by : (o : Option (ℕ × PkgRow)) → row_entries f (option_map (λ (u : ℕ × PkgRow). u.1) o) ≡ held_entries (option_map (λ (u : ℕ × Held). u.1) (option_map (job_held_with f) o))
     by None = refl
     by (Some u) = refl
 
-version_found : (f : Find) (id : List ℕ) (version : ℕ) (rows : Rows) → version_manifest id version (state_with f rows) ≡ entries_of f (find (is_of id version) rows.versions)
+abbrev entries_or_none : Option (List Entry) → List Entry
+entries_or_none found = unwrap_or found []
+
+pub job_entries : (f : Find) (job : ℕ) (rows : Rows) (o : Option PkgRow) → row_of_job job rows.jobs ≡ o → entries_or_none (row_entries f o) ≡ job_manifest job (state_with f rows)
+job_entries f job rows o is = ap entries_or_none (job_held f job rows o is)
+
+-- that of a version too
+version_found : (f : Find) (id : List ℕ) (version : ℕ) (rows : Rows) → row_entries f (find (is_of id version) rows.versions) ≡ held_entries (find (λ (held : Held). is_of id version held.row) (state_with f rows).versions)
 version_found f id version rows =
-    ap (λ (o : Option Held). manifest_or_none o) (find_map (held_with f) (is_of id version) (λ (held : Held). is_of id version held.row) (λ r. refl) rows.versions) ∙ by (find (is_of id version) rows.versions)
+    by (find (is_of id version) rows.versions)
+    ∙ ap held_entries (sym (find_map (held_with f) (is_of id version) (λ (held : Held). is_of id version held.row) (λ r. refl) rows.versions))
   where
-    by : (o : Option PkgRow) → manifest_or_none (option_map (held_with f) o) ≡ entries_of f o
+    by : (o : Option PkgRow) → row_entries f o ≡ held_entries (option_map (held_with f) o)
     by None = refl
     by (Some row) = refl
 
-pub version_there : (f : Find) (id : List ℕ) (version : ℕ) (rows : Rows) → fault_of rows (RemovedRecord id version) ≡ None → f id version ≡ version_manifest id version (state_with f rows)
-version_there f id version rows free =
+pub version_held : (f : Find) (id : List ℕ) (version : ℕ) (rows : Rows) → fault_of rows (RemovedRecord id version) ≡ None → Some (f id version) ≡ held_entries (find (λ (held : Held). is_of id version held.row) (state_with f rows).versions)
+version_held f id version rows free =
     let found = found_any (is_of id version) rows.versions (when_true (has_version id version rows) NoVersion free) in
     let parts = and_parts (bytes_eq found.0.package id) (found.0.version == version) found.2 in
     let same_id : found.0.package ≡ id = (bytes_eq-Decides found.0.package id).0 parts.0 in
     let same_version : found.0.version ≡ version = eqb-true found.0.version version parts.1 in
-    ap (λ (i : List ℕ). f i version) (sym same_id) ∙ ap (λ (v : ℕ). f found.0.package v) (sym same_version) ∙ ap (entries_of f) (sym found.1) ∙ sym (version_found f id version rows)
+    ap (λ (i : List ℕ). Some (f i version)) (sym same_id) ∙ ap (λ (v : ℕ). Some (f found.0.package v)) (sym same_version) ∙ ap (row_entries f) (sym found.1) ∙ version_found f id version rows
   where
     found_any : {A : Type 0} (p : A → Bool) (xs : List A) → list_any p xs ≡ true → (x : A) × (find p xs ≡ Some x) × (p x ≡ true)
     found_any p [] is = absurd (false≢true is)
@@ -433,8 +445,11 @@ version_there f id version rows free =
         at true same any rest = (x, refl, same)
         at false same any rest = rest any
 
-pub version_none : (f : Find) (id : List ℕ) (version : ℕ) (rows : Rows) (fault : RowFault) → fault_of rows (RemovedRecord id version) ≡ Some fault → (let none : List Entry = [] in none) ≡ version_manifest id version (state_with f rows)
-version_none f id version rows fault is = by (has_version id version rows) refl is
+pub version_there : (f : Find) (id : List ℕ) (version : ℕ) (rows : Rows) → fault_of rows (RemovedRecord id version) ≡ None → f id version ≡ version_manifest id version (state_with f rows)
+version_there f id version rows free = ap entries_or_none (version_held f id version rows free)
+
+pub version_lacks : (f : Find) (id : List ℕ) (version : ℕ) (rows : Rows) (fault : RowFault) → fault_of rows (RemovedRecord id version) ≡ Some fault → None ≡ held_entries (find (λ (held : Held). is_of id version held.row) (state_with f rows).versions)
+version_lacks f id version rows fault is = by (has_version id version rows) refl is
   where
     none_any : {A : Type 0} (p : A → Bool) (xs : List A) → list_any p xs ≡ false → find p xs ≡ None
     none_any p [] none = refl
@@ -444,9 +459,12 @@ version_none f id version rows fault is = by (has_version id version rows) refl 
         at true any rest = absurd (true≢false any)
         at false any rest = rest any
 
-    by : (b : Bool) → has_version id version rows ≡ b → when (not b) NoVersion ≡ Some fault → (let none : List Entry = [] in none) ≡ version_manifest id version (state_with f rows)
+    by : (b : Bool) → has_version id version rows ≡ b → when (not b) NoVersion ≡ Some fault → None ≡ held_entries (find (λ (held : Held). is_of id version held.row) (state_with f rows).versions)
     by true has none = absurd (none-some fault none)
-    by false has some = sym (version_found f id version rows ∙ ap (entries_of f) (none_any (is_of id version) rows.versions has))
+    by false has some = ap (row_entries f) (sym (none_any (is_of id version) rows.versions has)) ∙ version_found f id version rows
+
+pub version_none : (f : Find) (id : List ℕ) (version : ℕ) (rows : Rows) (fault : RowFault) → fault_of rows (RemovedRecord id version) ≡ Some fault → (let none : List Entry = [] in none) ≡ version_manifest id version (state_with f rows)
+version_none f id version rows fault is = ap entries_or_none (version_lacks f id version rows fault is)
 
 -- a hash is sealed that is needed
 pub sealed_counted : (counts counts' : Counts) (s : State) (hash : Hash) (seal : Seal) → IsCounted counts s [] → is_needed hash.0 s ≡ true → ((other : Hash) → count_of counts' other ≡ count_of counts other)

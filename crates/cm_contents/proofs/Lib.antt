@@ -1,4 +1,5 @@
 pub mod Counted
+pub mod Holding
 pub mod Keeping
 pub mod Least
 pub mod Wanted

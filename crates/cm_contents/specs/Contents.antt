@@ -9,6 +9,8 @@ use Rattle.std.specs.List.{AllByRecursion}
 use Rattle.cm_pkglib.specs.declared.row.PkgRow.{PkgRow}
 use Rattle.cm_pkglib.specs.declared.change.Change.{Change}
 use Rattle.cm_pkglib.specs.declared.change.Change.TheVariants.{Opened, Done, Dropped as DroppedRecord, Removed as RemovedRecord}
+use Rattle.cm_pkglib.specs.declared.fault.RowFault.{RowFault}
+use Rattle.cm_pkglib.specs.declared.fault.RowFault.TheVariants.{NoJob, NoVersion, VersionThere, JobThere, TooManyVersions, TooManyEntries, TooManyJobs, WrongJob}
 use Rattle.cm_pkglib.specs.Rows.{Rows, is_of}
 use Rattle.cm_tree.specs.declared.entry.Entry.{Entry}
 use Rattle.cm_state.specs.declared.row.VersionRow.{VersionRow}
@@ -134,6 +136,17 @@ NamesTaken taken (Opened job id version entries size hash) = taken ≡ Some (hel
 NamesTaken taken (Done job) = Unit {0}
 NamesTaken taken (DroppedRecord job) = Unit {0}
 NamesTaken taken (RemovedRecord id version) = Unit {0}
+
+-- why no job may begin: the version is there, or an unfinished job is to make it
+abbrev pub is_of_version : RowFault → Bool
+is_of_version VersionThere = true
+is_of_version (JobThere job) = true
+is_of_version NoJob = false
+is_of_version NoVersion = false
+is_of_version TooManyVersions = false
+is_of_version TooManyEntries = false
+is_of_version TooManyJobs = false
+is_of_version WrongJob = false
 
 -- the record is that of its change, for which memory is taken
 pub record IsTakenFor (taken : Option Held) (change : Change) : Type 0 where

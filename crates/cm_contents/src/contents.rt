@@ -1,13 +1,15 @@
 //! What a library keeps in memory, and how it changes.
-ghost use Rattle.std.specs.Prelude.{◌≡◌, ◌+◌, ◌<◌, ◌≤◌, None, Some, List, ℕ, length, IfOk, IfSome, OnErr, OnOk, [], is_some, option_map, unwrap_or, vec_len, vec_capacity};
+ghost use Rattle.std.specs.Prelude.{◌≡◌, ◌+◌, ◌<◌, ◌≤◌, None, Some, List, ℕ, length, IfOk, IfSome, OnErr, OnOk, [], is_some, option_map, unwrap_or, find, vec_len, vec_capacity};
 ghost use Rattle.std.specs.Result.{result_err};
 ghost use Rattle.cm_pkglib.specs.Counts.{sealed_of};
 ghost use Rattle.cm_pkglib.specs.declared.change.Change.TheVariants.{Done as done_change, Dropped as dropped_change, Removed as removed_change};
-ghost use Rattle.cm_pkglib.specs.Rows.{last_of, fault_of, opened_fault, row_of_job};
+ghost use Rattle.cm_pkglib.specs.Rows.{last_of, fault_of, opened_fault, row_of_job, is_of};
 ghost use Rattle.cm_pkglib.specs.Valid.{AreValid};
 ghost use Rattle.cm_state.specs.Changes.{Begun, Finished, Dropped, Removed, changed};
-ghost use Rattle.cm_state.specs.State.{held_of, rows_of, version_rows, job_rows, count_in, entries_in, held_by_job};
-ghost use Rattle.cm_contents.specs.Contents.{state_with, manifest_in_map, PutsManifest, change_in, IsTakenFor};
+ghost use Rattle.cm_state.specs.Needed.{holds};
+ghost use Rattle.cm_state.specs.State.{Held as a_held, held_of, rows_of, version_rows, job_rows, count_in, entries_in, held_by_job};
+ghost use Rattle.cm_tree.specs.Manifests.{IsManifest};
+ghost use Rattle.cm_contents.specs.Contents.{state_with, manifest_in_map, PutsManifest, change_in, is_of_version, IsTakenFor};
 ghost use Rattle.cm_contents.specs.Seals.{job_manifest, version_manifest};
 ghost use Rattle.cm_contents.specs.Wants.{size_in, HasHashes, IsNextWanted};
 
@@ -16,7 +18,7 @@ use crate::wants::{JobWants, Wants, drop_wants, jobs_want, keep_wants};
 use cm_base::{Hash, JobId, Memory, PackageId, Version};
 use cm_pkglib::{Change, Counts, PkgRow, RowFault, Rows};
 use cm_state::{JobRow, VersionRow};
-use cm_tree::Manifest;
+use cm_tree::{Entry, Manifest};
 use std::alloc::Global;
 use std::collections::BTreeMap;
 use std::marker::Model;
@@ -129,6 +131,22 @@ fn row_for(manifests: &Manifests, key: (PackageId, Version), size: u32, hash: Ha
     }
 }
 
+// The version is there, or an unfinished job is to make it.
+fn is_of_version(fault: &RowFault) -> bool
+    ensures { result ≡ is_of_version fault.now }
+{
+    match *fault {
+        RowFault::VersionThere => true,
+        RowFault::JobThere { .. } => true,
+        RowFault::NoJob => false,
+        RowFault::NoVersion => false,
+        RowFault::TooManyVersions => false,
+        RowFault::TooManyEntries => false,
+        RowFault::TooManyJobs => false,
+        RowFault::WrongJob => false,
+    }
+}
+
 // The row of an unfinished job.
 fn row_of_job(jobs: &[(JobId, PkgRow)], job: JobId) -> Option<PkgRow>
     ensures { result ≡ row_of_job job jobs.now }
@@ -139,6 +157,17 @@ fn row_of_job(jobs: &[(JobId, PkgRow)], job: JobId) -> Option<PkgRow>
         }
     }
     None
+}
+
+// The entries of a manifest, none where it is not kept.
+fn entries_or_none(manifest: Option<&Manifest>) -> &[Entry]
+    ensures value { result.now ≡ unwrap_or (option_map (λ manifest. manifest.now) manifest.entry) [] }
+    ensures form { IsManifest result.now }
+{
+    match manifest {
+        Some(manifest) => manifest.entries(),
+        None => &[],
+    }
 }
 
 impl Contents {
@@ -235,6 +264,16 @@ impl Contents {
         row_of_job(self.rows.jobs(), job).is_some()
     }
 
+    /// Whether a version is there, or an unfinished job is to make it.
+    pub fn holds(&self, package: PackageId, version: Version) -> bool
+        ensures { result ≡ holds «package» version self.now.state }
+    {
+        match self.begin_fault(package, version, 0) {
+            Some(fault) => is_of_version(&fault),
+            None => false,
+        }
+    }
+
     // What an unfinished job wants. None only where its manifest has no entries, or there is no such job.
     fn job_wants(&self, job: JobId) -> Option<&Wants>
         ensures { HasHashes (option_map (λ wants. wants.now) result) (job_manifest job self.now.state) }
@@ -289,6 +328,28 @@ impl Contents {
         match self.rows.check(&Change::Removed { package, version }) {
             Ok(()) => self.manifests.get(&(package, version)),
             Err(_) => None,
+        }
+    }
+
+    /// The entries of a version's manifest. None exactly where there is no such version.
+    pub fn manifest(&self, package: PackageId, version: Version) -> Option<&[Entry]>
+        ensures value { option_map (λ entries. entries.now) result ≡ option_map (λ (held : a_held). held.manifest) (find (λ (held : a_held). is_of «package» version held.row) self.now.state.versions) }
+        ensures form { IfSome result (λ entries. IsManifest entries.now) }
+    {
+        match self.rows.check(&Change::Removed { package, version }) {
+            Ok(()) => Some(entries_or_none(self.manifests.get(&(package, version)))),
+            Err(_) => None,
+        }
+    }
+
+    /// The entries of the manifest of an unfinished job. None exactly where there is no such job.
+    pub fn manifest_of_job(&self, job: JobId) -> Option<&[Entry]>
+        ensures value { option_map (λ entries. entries.now) result ≡ option_map (λ (held : a_held). held.manifest) (held_by_job job self.now.state.jobs) }
+        ensures form { IfSome result (λ entries. IsManifest entries.now) }
+    {
+        match row_of_job(self.rows.jobs(), job) {
+            Some(row) => Some(entries_or_none(self.manifests.get(&(row.package, row.version)))),
+            None => None,
         }
     }
 

@@ -16,6 +16,7 @@ mod walking;
 pub use erasing::erase;
 pub use faults::DataFault;
 pub use loading::load;
+pub use places::version_at;
 pub use storing::store;
 pub use syncing::sync;
 pub use walking::next;

@@ -88,8 +88,8 @@ fn number_in(text: &[u8]) -> Option<u32>
     }
 }
 
-// The version whose manifest has this place. None where it is no place of a manifest.
-fn version_at(place: &Place) -> Option<(PackageId, Version)>
+/// The version whose manifest has this place. None exactly where it is no place of a manifest.
+pub fn version_at(place: &Place) -> Option<(PackageId, Version)>
     ensures { result ≡ version_named place.now }
 {
     let bytes = place.as_bytes();

@@ -1,12 +1,13 @@
 //! What follows from the definitions of images, for those who build on a disk.
 ghost use Rattle.std.specs.Prelude.{◌≡◌, [], ◌∷◌, ◌++◌, ◌<◌, ◌≤◌, List, ℕ, length, false, true, Some, is_some};
 ghost use Rattle.hex.specs.Hex.{IsBytes};
-ghost use Rattle.cm_disk.specs.Disk.{File, byte_at, IsImage, Only, is_above};
+ghost use Rattle.cm_disk.specs.Disk.{File, Files, byte_at, IsImage, Only, is_above};
 ghost use Rattle.cm_disk.specs.Images.{Stand, IsLeft, at_rest, is_touched};
 ghost use Rattle.cm_disk.specs.declared.calls.Call.{Call};
 ghost use Rattle.cm_disk.specs.declared.calls.Work.TheVariants.{Sync};
 ghost use Rattle.cm_disk.specs.Ranks.{ahead};
 ghost use Rattle.cm_disk.specs.Stands.{files_after, left_after};
+ghost use Rattle.cm_disk.specs.Walks.{AreListed};
 
 /// After a successful sync each image has what a read gives.
 pub fn a_synced_place_is_what_reads_give()
@@ -36,6 +37,11 @@ pub fn a_disk_as_it_reads_is_left()
 /// Whatever was done on a disk, once a sync of a place succeeds a stop leaves there what a read gave before it.
 pub fn a_sync_leaves_what_a_read_gives()
     ensures { (calls : List Call) (place : List ℕ) → Only (files_after calls place) (left_after (calls ++ record { place = place; work = Sync; done = true } ∷ []) place) }
+{}
+
+/// Two listings of the same files are equal.
+pub fn files_have_one_listing()
+    ensures { (files : Files) (one two : List (List ℕ)) → AreListed files one → AreListed files two → one ≡ two }
 {}
 
 /// A place above another is nearer to the end of a walk.

@@ -26,7 +26,8 @@ pub use host_disk::HostDisk;
 pub use laws::{
     a_disk_as_it_reads_is_left, a_place_above_is_nearer_to_the_end,
     a_sync_leaves_what_a_read_gives, a_synced_place_is_what_reads_give,
-    an_untouched_byte_is_durable, an_untouched_place_is_durable, what_is_durable_is_left,
+    an_untouched_byte_is_durable, an_untouched_place_is_durable, files_have_one_listing,
+    what_is_durable_is_left,
 };
 pub use memory::MemDisk;
 pub use walk::{Form, next_of_form};

@@ -13,8 +13,9 @@ mod writing;
 
 pub use erasing::erase;
 pub use faults::{FileFault, SealFault};
+pub use places::hash_at;
 pub use putting::{put, seal, start};
-pub use reading::read_at;
+pub use reading::{file_size, read_at};
 pub use salvaging::salvage;
 pub use walking::next;
 pub use writing::Writing;

@@ -63,8 +63,8 @@ pub(crate) fn file_at(hash: Hash) -> Place
     }
 }
 
-// The hash whose file has this place. None where it is no place of a file.
-fn hash_at(place: &Place) -> Option<Hash>
+/// The hash whose file has this place. None exactly where it is no place of a file.
+pub fn hash_at(place: &Place) -> Option<Hash>
     ensures { option_map (λ hash. hash.0) result ≡ hash_named place.now }
 {
     let bytes = place.as_bytes();

@@ -1,5 +1,5 @@
 //! A file is read.
-ghost use Rattle.std.specs.Prelude.{◌≡◌, ◌≤◌, length, is_some, IfOk, IfSome};
+ghost use Rattle.std.specs.Prelude.{◌≡◌, ◌+◌, ◌≤◌, ◌^◌, length, is_some, option_map, IfOk, IfSome};
 ghost use Rattle.std.specs.Option.{ForSome};
 ghost use Rattle.cm_base.specs.Causes.{HasCause};
 ghost use Rattle.cm_disk.specs.Disk.{Reads, IsImage, LeavesNoMore, LeavesOnly};
@@ -30,4 +30,18 @@ pub fn read_at<D: Disk>(
         return Ok(None);
     }
     Ok(Some(disk.read_at(&place, offset, buf)?))
+}
+
+/// The size of the file of a hash in bytes, at most 2^40 + 131,072. None exactly where the place is absent.
+pub fn file_size<D: Disk>(disk: &mut D, hash: Hash) -> Result<Option<u64>, DiskFault>
+    ensures value { IfOk result (λ size. ForSome (D.reads disk.old) (λ files. size ≡ option_map length (files (file_place hash.0)))) }
+    ensures bound { IfOk result (λ size. IfSome size (λ size. size ≤ 2 ^ 40 + 131072)) }
+    ensures same { D.reads disk.new ≡ D.reads disk.old }
+    ensures stop { LeavesNoMore (D.may_leave disk.old) (D.may_leave disk.new) }
+    ensures run { LeavesOnly D.moment D.left_since disk.old disk.new (IsImage (D.may_leave disk.old)) }
+    ensures cause { HasCause (D.faults disk.old) (D.faults disk.new) result }
+{
+    let place = file_at(hash);
+    let size = disk.size(&place)?;
+    Ok(size)
 }

@@ -1,10 +1,13 @@
+pub mod AllSteps
 pub mod AnyMoment
 pub mod EndChanges
 pub mod FileAt
 pub mod FileCalls
 pub mod FilesWritten
+pub mod Folders
 pub mod Keeps
 pub mod KeptPlaces
+pub mod Loose
 pub mod ManifestStored
 pub mod MapKept
 pub mod NamedSealed
@@ -12,4 +15,6 @@ pub mod Naming
 pub mod Refused
 pub mod SettledCalls
 pub mod StartedFiles
+pub mod Stepping
 pub mod Sure
+pub mod Walked

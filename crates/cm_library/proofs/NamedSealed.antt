@@ -1,6 +1,6 @@
 -- Each hash that a version names is sealed.
 use Rattle.std.proofs.Common.{◌≡◌, Bool, true, false, List, [], ◌∷◌, refl, ◌∙◌, ap}
-use Rattle.std.specs.Prelude.{◌≢◌, ◌||◌, ℕ, None}
+use Rattle.std.specs.Prelude.{◌≢◌, ◌||◌, None}
 use Rattle.std.specs.List.{AllByRecursion, list_any}
 use Rattle.std.specs.Str.{bytes_eq}
 use Rattle.std.proofs.lemmas.Bool.{false≢true}

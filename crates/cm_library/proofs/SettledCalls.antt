@@ -7,7 +7,7 @@ use Rattle.std.proofs.lemmas.Bool.{false≢true}
 use Rattle.std.specs.Str.{bytes_eq}
 use Rattle.hex.specs.Hex.{IsBytes}
 use Rattle.cm_base.specs.declared.hash.Hash.{Hash}
-use Rattle.cm_disk.specs.Disk.{File, Files, IsImage, LeavesOnly}
+use Rattle.cm_disk.specs.Disk.{File, Files, IsImage, LeavesNoMore, LeavesOnly}
 use Rattle.cm_log.specs.declared.state.Log.{Log}
 use Rattle.cm_log.specs.Settled.{end_of}
 use Rattle.cm_pkglib.specs.declared.change.Change.{Change}
@@ -30,7 +30,8 @@ use Rattle.cm_contents.specs.Wants.{size_in}
 use Rattle.cm_library.specs.Kept.{Seen, pending_in, IsKept, IsLibrary}
 use Rattle.cm_library.specs.Started.{AreStarted, started_by, holder_of, no_job, unwanted, stored, held, start_fault, salvage_fault, unstarted, file_fault}
 use Rattle.cm_library.proofs.FilesWritten.{filing_leaves_standing, filing_leaves_open}
-use Rattle.cm_library.proofs.Sure.{file_kept, file_sealed}
+use Rattle.cm_library.proofs.Keeps.{kept_filed}
+use Rattle.cm_library.proofs.Sure.{sure_apart, file_kept, file_sealed}
 
 -- where no cause holds, none of its parts does
 pub first_none : (a b : Option LibFault) → first_fault a b ≡ None → (a ≡ None) × (b ≡ None)
@@ -138,6 +139,22 @@ module _ {D : Type 0} (reads : D → Option Files) (may_leave : D → List ℕ �
     work_opens bytes unsealed =
         subst (λ (v : Seen D). EachOpensSome (may_leave v.start) → ForSome (reads v.disk) (λ _. LeavesOnly moment left_since v.disk new (OpensOr v.state None))) is
         (filing_leaves_open reads may_leave moment left_since start disk new log m counts kept_idle hash run (as_it_reads disk) bytes unsealed)
+
+  -- the disk was read
+  module _ (new : D) (same : reads new ≡ reads disk) (stop : LeavesNoMore (may_leave disk) (may_leave new)) where
+    pub read_alone : IsLibrary reads may_leave start new log m counts pending files room
+    read_alone =
+        let silent = λ (none : reads disk ≡ None). same ∙ none in
+        subst (λ (p : Option Change). IsLibrary reads may_leave start new log m counts p files room) (sym idle) (record {
+          kept = record {
+            standing = kept_filed reads may_leave disk new log m kept_idle.standing silent (as_it_reads new) [] (λ q left other now. stop q left now);
+            counted = kept_idle.counted;
+            stored = tt;
+            sure = sure_apart reads may_leave start disk new m.state counts silent (λ x told hash left. stop (file_place hash) left) kept_idle.sure;
+          };
+          files = subst (λ (r : Option Files). AreStarted r m.state (λ hash. sealed_of counts hash) None files) (sym same) files_idle;
+          enough = library.enough;
+        })
 
 -- there is room for one started file more
 pub room_for : (jobs few room left : ℕ) → left < jobs → jobs ≡ few → few ≤ 256 → 256 ≤ room → left < room

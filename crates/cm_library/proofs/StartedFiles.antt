@@ -45,7 +45,7 @@ abbrev IsApartFrom : ℕ → List ℕ → File → Type 0
 IsApartFrom job hash file = (file.0 ≢ job) × ((hash_of file.1).0 ≢ hash)
 
 -- two facts of each element give a third
-all_join : {A : Type 0} (P Q R : A → Type 0) → ((a : A) → P a → Q a → R a) → (xs : List A) → AllByRecursion P xs → AllByRecursion Q xs → AllByRecursion R xs
+pub all_join : {A : Type 0} (P Q R : A → Type 0) → ((a : A) → P a → Q a → R a) → (xs : List A) → AllByRecursion P xs → AllByRecursion Q xs → AllByRecursion R xs
 all_join P Q R join [] p q = tt
 all_join P Q R join (x ∷ xs) p q = (join x p.0 q.0, all_join P Q R join xs p.1 q.1)
 
@@ -145,11 +145,11 @@ files_unsealed r s seals seals' pending started none are = record {
 }
 
 -- a place that is as it was
-still_writing : (files now : Files) (writing : Writing) → now (place_of writing) ≡ files (place_of writing) → IsWriting files writing → IsWriting now writing
+pub still_writing : (files now : Files) (writing : Writing) → now (place_of writing) ≡ files (place_of writing) → IsWriting files writing → IsWriting now writing
 still_writing files now writing same is = record { bytes = is.bytes; put = is.put; reads = same ∙ is.reads }
 
 -- what was told of what the disk reads as, where it tells it
-told_of : (relation : Files → Files → Type 0) (old new : Option Files) (files now : Files) → Told relation old new → old ≡ Some files → new ≡ Some now → relation files now
+pub told_of : (relation : Files → Files → Type 0) (old new : Option Files) (files now : Files) → Told relation old new → old ≡ Some files → new ≡ Some now → relation files now
 told_of relation old new files now told before after =
     let t = told files before in
     subst (relation files) (same_Some t.0 now (sym t.1 ∙ after)) t.2

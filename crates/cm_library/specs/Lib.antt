@@ -5,4 +5,6 @@ pub mod Kept
 pub mod Loads
 pub mod Opening
 pub mod Placing
+pub mod Purging
+pub mod Reading
 pub mod Started

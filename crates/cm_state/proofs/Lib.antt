@@ -11,6 +11,7 @@ pub mod Needs
 pub mod OnEach
 pub mod OneState
 pub mod Opens
+pub mod Purges
 pub mod Ready
 pub mod Replaying
 pub mod Rooms

@@ -14,7 +14,7 @@ use Rattle.cm_state.specs.State.{Held, State}
 use Rattle.cm_state.specs.Look.{Opened, rows_from, library_from, look_at}
 use Rattle.cm_state.specs.Needed.{holdings, file_places, own_place}
 use Rattle.cm_state.specs.Needs.{AgreeOn}
-use Rattle.cm_state.specs.Opens.{HasFile, HasFiles, Opens}
+use Rattle.cm_state.specs.Opens.{HasFile, HasFiles, Stands, Opens}
 use Rattle.cm_state.proofs.Loaded.{HasHeld, HasJob, same_manifest}
 use Rattle.cm_state.proofs.Replaying.{not_broken, grounds_of, opened_by}
 
@@ -27,7 +27,7 @@ all_back : {A : Type 0} (P : A → Type 0) (xs ys : List A) → AllByRecursion P
 all_back P [] ys all = all
 all_back P (x ∷ xs) ys all = all_back P xs ys all.1
 
-un_map : {A B : Type 0} (f : A → B) (P : B → Type 0) (xs : List A) → AllByRecursion P (map f xs) → AllByRecursion (λ x. P (f x)) xs
+pub un_map : {A B : Type 0} (f : A → B) (P : B → Type 0) (xs : List A) → AllByRecursion P (map f xs) → AllByRecursion (λ x. P (f x)) xs
 un_map f P [] all = tt
 un_map f P (x ∷ xs) all = (all.0, un_map f P xs all.1)
 
@@ -73,19 +73,24 @@ module _ (files now : Files) where
   files_now [] same all = tt
   files_now (h ∷ hs) same all = (entries_now h.manifest (un_map (λ (e : Entry). file_place e.hash.0) Same h.manifest same.0) all.0, files_now hs same.1 all.1)
 
-  pub needs_are_enough : (s : State) → Opens files s → AgreeOn s files now → Opens now s
-  needs_are_enough s opens agree =
-      let l = live_of files (shelved PkgLib files) s opens.stands in
-      let g = grounds_of files l.place l.entries l.end s l.is opens.stands in
+  pub stands_enough : (s : State) → Stands files s → AgreeOn s files now → Stands now s
+  stands_enough s stands agree =
+      let l = live_of files (shelved PkgLib files) s stands in
+      let g = grounds_of files l.place l.entries l.end s l.is stands in
       let jobs = map (λ (job : ℕ × Held). job.1) s.jobs in
       let manifests = un_map own_place Same (holdings s) (all_front Same (map own_place (holdings s)) (flat_map file_places (holdings s)) agree.needed_places) in
+      opened_by now l.place l.entries l.end s (alike PkgLib files now agree.ready agree.logs ∙ l.is) (record {
+        rows = g.rows;
+        room = g.room;
+        versions = helds_now s.versions (all_front (λ (h : Held). Same (own_place h)) s.versions jobs manifests) g.versions;
+        jobs = jobs_now s.jobs (un_map (λ (job : ℕ × Held). job.1) (λ (h : Held). Same (own_place h)) s.jobs (all_back (λ (h : Held). Same (own_place h)) s.versions jobs manifests)) g.jobs;
+      })
+
+  pub needs_are_enough : (s : State) → Opens files s → AgreeOn s files now → Opens now s
+  needs_are_enough s opens agree =
+      let jobs = map (λ (job : ℕ × Held). job.1) s.jobs in
       let stored = un_flat file_places Same (holdings s) (all_back Same (map own_place (holdings s)) (flat_map file_places (holdings s)) agree.needed_places) in
       record {
-        stands = opened_by now l.place l.entries l.end s (alike PkgLib files now agree.ready agree.logs ∙ l.is) (record {
-          rows = g.rows;
-          room = g.room;
-          versions = helds_now s.versions (all_front (λ (h : Held). Same (own_place h)) s.versions jobs manifests) g.versions;
-          jobs = jobs_now s.jobs (un_map (λ (job : ℕ × Held). job.1) (λ (h : Held). Same (own_place h)) s.jobs (all_back (λ (h : Held). Same (own_place h)) s.versions jobs manifests)) g.jobs;
-        });
+        stands = stands_enough s opens.stands agree;
         whole = files_now s.versions (all_front (λ (h : Held). AllByRecursion Same (file_places h)) s.versions jobs stored) opens.whole;
       }

@@ -7,6 +7,7 @@ pub mod Look
 pub mod Needed
 pub mod Needs
 pub mod Opens
+pub mod Purged
 pub mod Runs
 pub mod SmallLogs
 pub mod Sound

@@ -2,6 +2,7 @@
 use Rattle.std.specs.Prelude.{ℕ, ◌||◌, Bool, List, ◌++◌, map}
 use Rattle.std.specs.List.{list_any, flat_map}
 use Rattle.std.specs.Str.{bytes_eq}
+use Rattle.cm_pkglib.specs.Rows.{is_of}
 use Rattle.cm_tree.specs.declared.entry.Entry.{Entry}
 use Rattle.cm_datalib.specs.Places.{manifest_place}
 use Rattle.cm_filelib.specs.Places.{file_place}
@@ -22,6 +23,10 @@ is_needed hash state = is_named hash state || list_any (λ (job : ℕ × Held). 
 -- what the versions and the unfinished jobs hold
 abbrev pub holdings : State → List Held
 holdings state = state.versions ++ map (λ (job : ℕ × Held). job.1) state.jobs
+
+-- a version is there, or an unfinished job is to make it
+abbrev pub holds : List ℕ → ℕ → State → Bool
+holds id version state = list_any (λ (held : Held). is_of id version held.row) (holdings state)
 
 -- the places of the files that a manifest names
 abbrev pub file_places : Held → List (List ℕ)

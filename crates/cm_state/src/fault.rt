@@ -73,6 +73,14 @@ pub enum LibFault {
     NotStored {
         hash: Hash,
     },
+    /// The manifest has no such entry.
+    NoEntry {
+        entry: u32,
+    },
+    /// There is no file at the place of that hash.
+    Gone {
+        hash: Hash,
+    },
     /// The next job number is 2^64 - 1, or the log's end is past 2^40 - 1,048,576.
     Spent,
     /// There was no memory.

@@ -15,6 +15,7 @@ ghost use Rattle.cm_state.specs.Standing.{StandsIn};
 ghost use Rattle.cm_state.specs.State.{State, rows_of};
 ghost use Rattle.cm_state.specs.Sure.{AreManifestsSure, AreVersionsSure};
 ghost use Rattle.cm_state.specs.Needs.{NeedsAreEnough};
+ghost use Rattle.cm_state.specs.Purged.{Clears};
 ghost use Rattle.cm_state.specs.Opens.{OpensToOne, Opens, OpensOr, EachOpens, EachOpensSome, Stands};
 ghost use Rattle.cm_state.specs.Steps.{EachImageIsPrefixed};
 ghost use Rattle.cm_state.specs.Whole.{TreesAreWhole, TreesOpen};
@@ -30,6 +31,13 @@ pub fn files_open_to_one_state()
 /// What a state needs is enough: other files that agree at the log's places and at those that the state needs open to it as well.
 pub fn needs_are_enough()
     ensures { NeedsAreEnough }
+{}
+
+/// Where some loose places are gone and nothing else has changed, files that opened to a state open to it, and those that stood in it
+/// stand in it.
+pub fn clearing_keeps_what_opens()
+    ensures opens { (state : State) (files now : Files) → Clears state files now → Opens files state → Opens now state }
+    ensures stands { (state : State) (files now : Files) → Clears state files now → Stands files state → Stands now state }
 {}
 
 /// Whatever calls, disk faults, crashes and openings follow one another, each image opens to the replay of a prefix of the

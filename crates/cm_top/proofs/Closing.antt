@@ -2,30 +2,33 @@
 use Rattle.std.proofs.Common.{◌≡◌, ◌⊎◌, ℕ, ◌+◌, ◌≤◌, ◌<◌, zero, suc, inl, inr, List, [], ◌∷◌, length, take, Option, None, Some, refl, sym, ◌∙◌, ap, subst, arith}
 use Rattle.std.specs.Prelude.{slice_get, Bool, true, false, if◌then◌else◌}
 use Rattle.std.specs.Option.{ForSome}
+use Rattle.std.proofs.lemmas.Bool.{false≢true}
 use Rattle.std.proofs.lemmas.Option.{none-some}
 use Rattle.cm_base.specs.Causes.{Rose}
 use Rattle.cm_disk.specs.Disk.{File, Files, IsImage, LeavesOnly}
 use Rattle.cm_disk.proofs.Moments.{started, joins, weaker}
 use Rattle.cm_intake.specs.Intake.{Goes, Rests, Stops as RunStops, OpensAmong as RunOpens}
 use Rattle.cm_library.specs.Kept.{Seen}
+use Rattle.cm_disk.specs.Walks.{AreListed}
 use Rattle.cm_library.specs.Placing.{KeepsPlaces}
 use Rattle.cm_state.specs.Adding.{Told}
 use Rattle.cm_state.specs.Becomes.{Becomes}
 use Rattle.cm_state.specs.Changes.{StateChange, after_change, changed, replayed}
 use Rattle.cm_state.specs.Look.{Library, Opened, look}
 use Rattle.cm_state.specs.Opens.{Opens, OpensOr, StandsOr, EachOpensSome}
+use Rattle.cm_state.specs.Purged.{loose}
 use Rattle.cm_state.specs.State.{State}
 use Rattle.cm_top.specs.Bays.{site}
-use Rattle.cm_top.specs.Machine.{Given, Step}
+use Rattle.cm_top.specs.Machine.{Given, Step, commits}
 use Rattle.cm_top.specs.Opened.{IsOpened}
-use Rattle.cm_top.specs.Runs.{Sourced, Starts, Moves, IsDone, IsAfter, Steps, GivesUp, Stops, EndsOn}
+use Rattle.cm_top.specs.Runs.{Sourced, Starts, Moves, IsDone, HasRemoved, IsAfter, Steps, GivesUp, Stops, EndsOn}
 use Rattle.cm_top.specs.Worlds.{Deed, Commits, steps_of, after, OpensTo, LeavesBy}
 use Rattle.cm_top.specs.declared.reply.Reply.{Reply}
-use Rattle.cm_top.specs.declared.reply.Reply.TheVariants.{Made, Added, Dropped, Changed, Versions, Refused, Source, Disk, Memory, NoLibrary, Unreadable}
+use Rattle.cm_top.specs.declared.reply.Reply.TheVariants.{Made, Added, Dropped, Changed, Versions, Findings, Loose, Purged, Refused, Source, Disk, Memory, NoLibrary, Unreadable}
 
--- a reply, and changes that are committed
-abbrev pub does : Reply → List StateChange → Step
-does reply changes = record { reply = reply; deed = Commits changes }
+-- a reply of the opened library, and changes that are committed, by a step that asks for places or doesn't
+abbrev pub asking : Bool → Reply → List StateChange → Step
+asking asks reply changes = record { reply = reply; deed = Commits changes; asks = asks }
 
 -- What a library tells of what a crash leaves now.
 pub record Leaves {D : Type 0} (reads : D → Option Files) (may_leave : D → List ℕ → File → Type 0) (library : Seen D) : Type 0 where
@@ -54,7 +57,7 @@ next_state zero (first ∷ changes) state lt = refl
 next_state (suc n) (first ∷ changes) state lt = next_state n changes (changed first state) (omega arith)
 
 -- opened to one state in both cases
-one_state : (image : Files) (state : State) → OpensOr state None image → Opens image state
+pub one_state : (image : Files) (state : State) → OpensOr state None image → Opens image state
 one_state image state (inl opens) = opens
 one_state image state (inr opens) = opens
 
@@ -71,6 +74,9 @@ module _ {D : Type 0} (reads : D → Option Files) (may_leave : D → List ℕ �
   ends_told faults step from to old new Dropped told steps = steps
   ends_told faults step from to old new (Changed path first first_size second second_size) told steps = steps
   ends_told faults step from to old new (Versions versions jobs) told steps = steps
+  ends_told faults step from to old new (Findings files list) told steps = steps
+  ends_told faults step from to old new (Loose places) told steps = steps
+  ends_told faults step from to old new (Purged files manifests) told steps = steps
   ends_told faults step from to old new (Refused refusal) told steps = steps
   ends_told faults step from to old new Source told steps = steps
   ends_told faults step from to old new (Disk bay) told steps = absurd told
@@ -159,19 +165,27 @@ module _ {D : Type 0} (reads : D → Option Files) (may_leave : D → List ℕ �
           ]
 
     module _ (step : Given → Library → Step) (from to : Sourced) (given : Given) (starts : Starts from to (reads was.start) given (Opened was.state)) where
-      -- the step was done whole
-      pub steps_closed : (reply : Reply) → step given (Opened was.state) ≡ does reply changes → Rests reads may_leave moment left_since (length changes) changes was now → Steps reads may_leave moment left_since step from to was.start now.disk reply
-      steps_closed reply gives rests =
-          let back : does reply changes ≡ step given (Opened was.state) = sym gives in
+      -- the step was done whole, and asked for the places that the library does not need, or did not
+      pub steps_asked : (reply : Reply) (asks : Bool) → (asks ≡ true → ForSome (reads was.start) (λ files. AreListed (loose was.state files) given.loose))
+          → step given (Opened was.state) ≡ asking asks reply changes → Rests reads may_leave moment left_since (length changes) changes was now
+          → Steps reads may_leave moment left_since step from to was.start now.disk reply
+      steps_asked reply asks listed gives rests =
+          let back : asking asks reply changes ≡ step given (Opened was.state) = sym gives in
           record {
             given = given;
             library = Opened was.state;
             starts = starts;
+            asked = λ is. listed (ap (λ (s : Step). s.asks) back ∙ is);
             replies = ap (λ (s : Step). s.reply) back;
             moves = subst (λ (s : Step). Moves reads may_leave moment left_since s.deed (Opened was.state) was.start now.disk) back (moves (length changes) rests.goes rests.same);
             becomes = subst (λ (s : Step). Becomes (reads was.start) (reads now.disk) (after (steps_of s.deed) s.deed (Opened was.state))) back (becomes_idle (length changes) rests.goes rests.idle);
             done = subst (λ (s : Step). IsDone reads may_leave s.deed (Opened was.state) was.start now.disk) back (opens_idle (length changes) rests.goes rests.idle);
+            removed = subst (λ (s : Step). HasRemoved reads may_leave s.deed (Opened was.state) was.start now.disk) back tt;
           }
+
+      -- the same of a step that asks for none
+      pub steps_closed : (reply : Reply) → step given (Opened was.state) ≡ commits reply changes → Rests reads may_leave moment left_since (length changes) changes was now → Steps reads may_leave moment left_since step from to was.start now.disk reply
+      steps_closed reply gives rests = steps_asked reply false (λ is. absurd (false≢true is)) gives rests
 
       module _ (is : (step given (Opened was.state)).deed ≡ Commits changes) where
         back : Commits changes ≡ (step given (Opened was.state)).deed

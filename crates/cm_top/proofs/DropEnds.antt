@@ -27,12 +27,12 @@ use Rattle.cm_state.specs.declared.fault.LibFault.{LibFault}
 use Rattle.cm_state.specs.declared.fault.LibFault.TheVariants.{NoJob, Disk as DiskFault}
 use Rattle.cm_state.proofs.Lists.{find_map}
 use Rattle.cm_top.specs.Bays.{site}
-use Rattle.cm_top.specs.Machine.{Step, told, drop_in, step_drop}
+use Rattle.cm_top.specs.Machine.{Step, commits, told, drop_in, step_drop}
 use Rattle.cm_top.specs.Opened.{IsOpened}
 use Rattle.cm_top.specs.Runs.{Sourced, EndsOn}
 use Rattle.cm_top.specs.declared.reply.Reply.TheVariants.{Dropped, Refused, Disk}
 use Rattle.cm_top.specs.declared.reply.Refusal.TheVariants.{NoBay, NoJob as NoSuchJob}
-use Rattle.cm_top.proofs.Closing.{does, Leaves, ends_told, steps_closed, ends_disk}
+use Rattle.cm_top.proofs.Closing.{Leaves, ends_told, steps_closed, ends_disk}
 use Rattle.cm_top.proofs.OpenedEnds.{ends_stay}
 use Rattle.cm_top.proofs.SomeFiles.{some_given, starts}
 
@@ -135,10 +135,10 @@ module _ {D T : Type 0} (reads : D → Option Files) (may_leave : D → List ℕ
         (subst (λ (o : Option StateChange). AnyMoment moment left_since OpensOr (if_allowed (JobDropped job)) was.disk now.disk was.state o was.state) open_is.settled (opens whole files told was.state (open_is.stands files (sym open_is.same ∙ told))))
         (among (JobDropped job) was.state)
 
-    step_is : (b : Bool) → is_some (held_by_job job was.state.jobs) ≡ b → step_drop bay job (Opened was.state) ≡ (if b then does Dropped (change job) else told (Refused NoSuchJob))
+    step_is : (b : Bool) → is_some (held_by_job job was.state.jobs) ≡ b → step_drop bay job (Opened was.state) ≡ (if b then commits Dropped (change job) else told (Refused NoSuchJob))
     step_is b is =
-        choice (bytes_eq bay site) (is_some (held_by_job job was.state.jobs)) (does Dropped (change job)) (told (Refused NoSuchJob)) (told (Refused (NoBay bay))) named
-        ∙ ap (λ (v : Bool). if v then does Dropped (change job) else told (Refused NoSuchJob)) is
+        choice (bytes_eq bay site) (is_some (held_by_job job was.state.jobs)) (commits Dropped (change job)) (told (Refused NoSuchJob)) (told (Refused (NoBay bay))) named
+        ∙ ap (λ (v : Bool). if v then commits Dropped (change job) else told (Refused NoSuchJob)) is
 
     -- it is dropped
     pub ends_dropped : (x : T) → result ≡ Ok x → EndsOn reads may_leave moment left_since faults (λ given. step_drop bay job) from to Dropped was.start now.disk

@@ -1,5 +1,6 @@
 -- The ends of `init`.
 use Rattle.std.proofs.Common.{◌≡◌, ◌≢◌, ◌⊎◌, ℕ, ◌≤◌, List, [], Option, None, Some, inl, inr, refl, sym, ap, subst, arith}
+use Rattle.std.proofs.lemmas.Bool.{false≢true}
 use Rattle.std.proofs.lemmas.Option.{none-some, same_Some}
 use Rattle.std.specs.Option.{ForSome}
 use Rattle.cm_disk.specs.Disk.{File, Files, IsImage, LeavesOnly}
@@ -10,7 +11,7 @@ use Rattle.cm_state.specs.Becomes.{IsLibrary, Becomes, Makes, MakesOrNot, IsMade
 use Rattle.cm_state.specs.Look.{Library, Missing, Opened, Unreadable, look}
 use Rattle.cm_state.specs.State.{empty}
 use Rattle.cm_top.specs.Machine.{Given, Step, no_bay, refused_or_made, made, replied, step_init}
-use Rattle.cm_top.specs.Runs.{Sourced, Steps, Stops, Moves, IsAfter, EndsOn}
+use Rattle.cm_top.specs.Runs.{Sourced, Steps, Stops, KeepsBy, Moves, IsAfter, EndsOn}
 use Rattle.cm_top.specs.Worlds.{steps_of, after, OpensTo, LeavesBy}
 use Rattle.cm_top.specs.declared.reply.Refusal.TheVariants.{NoBay}
 use Rattle.cm_top.specs.declared.reply.Reply.{Reply}
@@ -27,6 +28,12 @@ stays : (library : Library) → library ≢ Missing → made library ≡ replied
 stays Missing there = absurd (there refl)
 stays (Opened state) there = refl
 stays (Unreadable place at) there = refl
+
+-- making a library changes bytes at its places alone
+keeps_made : (library : Library) (old new : Option Files) → Told KeepsPlaces old new → Told (KeepsBy (made library).deed library) old new
+keeps_made Missing old new places = places
+keeps_made (Opened state) old new places = places
+keeps_made (Unreadable place at) old new places = places
 
 -- what the disk reads as is some library, which is there
 library_in : (reads : Option Files) → ForSome reads (λ files. look files ≢ Missing) → (library : Library) × IsLibrary reads library × (library ≢ Missing)
@@ -83,7 +90,7 @@ module _ {D : Type 0} (reads : D → Option Files) (may_leave : D → List ℕ �
     (counts : (t : ℕ) (files : Files) → t ≤ moment new → IsImage (may_leave new) files → left_since new t files) (from to : Sourced) where
   moves_made : (library : Library) → IsLibrary (reads old) library → (steps_of (made library).deed ≡ 0 → reads new ≡ reads old) → Moves reads may_leave moment left_since (made library).deed library old new
   moves_made library is same = record {
-    places = places;
+    places = keeps_made library (reads old) (reads new) places;
     same = same;
     moments = λ each files told. weaker moment left_since old new (IsMadeOrNot files (may_leave old)) (LeavesBy (may_leave old) (made library).deed library) (run files told)
         (λ left made. leaves_made (may_leave old) files left library (is files told) made);
@@ -96,10 +103,12 @@ module _ {D : Type 0} (reads : D → Option Files) (may_leave : D → List ℕ �
     given = some_given from.shown (reads old);
     library = Missing;
     starts = starts from to (reads old) Missing done.0;
+    asked = λ asks. absurd (false≢true asks);
     replies = refl;
     moves = moves_made Missing done.0 (λ none. absurd (omega arith));
     becomes = done.1;
     done = λ files told left image. record { stands = durable files told left image; whole = tt };
+    removed = tt;
   }
 
   -- there was one

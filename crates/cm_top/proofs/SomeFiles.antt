@@ -3,12 +3,15 @@
 use Rattle.std.proofs.Common.{◌≡◌, ℕ, ◌+◌, zero, suc, List, [], ◌∷◌, Option, None, Some, slice_get, sym, ◌∙◌, ap, subst, arith, refl}
 use Rattle.std.specs.Option.{ForSome}
 use Rattle.std.proofs.lemmas.Option.{none-some, same_Some}
+use Rattle.cm_check.specs.Findings.{findings}
+use Rattle.cm_check.specs.declared.finding.Finding.{Finding}
 use Rattle.cm_disk.specs.Disk.{Files}
 use Rattle.cm_intake.specs.Readings.{Readings, AreReadings}
 use Rattle.cm_state.specs.Becomes.{IsLibrary}
 use Rattle.cm_state.specs.Look.{Library, Missing, look, gate_in}
 use Rattle.cm_tree.specs.Folders.{Shown, Agrees}
 use Rattle.cm_tree.specs.Trees.{File, file_paths}
+use Rattle.cm_tree.specs.declared.entry.Entry.{Entry}
 use Rattle.cm_top.specs.Machine.{Given}
 use Rattle.cm_top.specs.Runs.{Sourced, Starts}
 
@@ -67,14 +70,41 @@ gate_told : (reads : Option Files) → ForSome reads (λ files. gate_in files �
 gate_told None files told = absurd (none-some files told)
 gate_told (Some was) files told = sym (ap gate_in (same_Some was files told))
 
--- what a step may be given, where a folder shows this and a disk reads so
+-- what is amiss with the files of a manifest, where the disk tells that
+abbrev pub amiss_or : Option Files → List Entry → List Finding
+amiss_or None manifest = []
+amiss_or (Some files) manifest = findings files manifest
+
+pub amiss_told : (reads : Option Files) → ForSome reads (λ files. (manifest : List Entry) → amiss_or reads manifest ≡ findings files manifest)
+amiss_told None files told = absurd (none-some files told)
+amiss_told (Some was) files told = λ manifest. ap (λ (f : Files). findings f manifest) (same_Some was files told)
+
+-- what a step may be given, where a folder shows this, a disk reads so, this is found amiss, and these places are not needed
+pub given_with : Shown → Option Files → (List Entry → List Finding) → List (List ℕ) → Given
+given_with shown reads amiss loose = record { readings = some_readings shown; gate = gate_or reads; amiss = amiss; loose = loose }
+
+pub with-amiss : (shown : Shown) (reads : Option Files) (amiss : List Entry → List Finding) (loose : List (List ℕ)) → (given_with shown reads amiss loose).amiss ≡ amiss
+unfolding given_with
+with-amiss shown reads amiss loose = refl
+
+pub with-loose : (shown : Shown) (reads : Option Files) (amiss : List Entry → List Finding) (loose : List (List ℕ)) → (given_with shown reads amiss loose).loose ≡ loose
+unfolding given_with
+with-loose shown reads amiss loose = refl
+
+-- a step may start from it
+pub starts_with : (from to : Sourced) (reads : Option Files) (library : Library) (amiss : List Entry → List Finding) (loose : List (List ℕ)) → ForSome reads (λ files. (manifest : List Entry) → amiss manifest ≡ findings files manifest)
+    → IsLibrary reads library → Starts from to reads (given_with from.shown reads amiss loose) library
+unfolding given_with
+starts_with from to reads library amiss loose found is = record { readings = some_are from.shown from.faults to.faults; gate = gate_told reads; amiss = found; library_is = is }
+
+-- what a step may be given that asks for nothing
 pub some_given : Shown → Option Files → Given
-some_given shown reads = record { readings = some_readings shown; gate = gate_or reads }
+some_given shown reads = given_with shown reads (amiss_or reads) []
 
 -- a step may start from it, on the library that the disk reads as
 pub starts : (from to : Sourced) (reads : Option Files) (library : Library) → IsLibrary reads library → Starts from to reads (some_given from.shown reads) library
 unfolding some_given
-starts from to reads library is = record { readings = some_are from.shown from.faults to.faults; gate = gate_told reads; library_is = is }
+starts from to reads library is = starts_with from to reads library (amiss_or reads) [] (amiss_told reads) is
 
 -- what the disk reads as is some library
 abbrev pub some_library : (reads : Option Files) → (library : Library) × IsLibrary reads library

@@ -1,20 +1,20 @@
 -- The reply `source` comes only where a reading of the folder failed.
 use Rattle.std.proofs.Common.{◌≡◌, ◌⊎◌, ◌==◌, ◌+◌, ℕ, Bool, true, false, if◌then◌else◌, not, List, [], ◌∷◌, ◌++◌, length, map, Option, None, Some, Result, Ok, Err, inl, inr, refl}
-use Rattle.std.specs.Prelude.{is_some, nat_lt, option_map}
+use Rattle.std.specs.Prelude.{is_some, find, nat_lt, option_map}
 use Rattle.std.specs.Option.{option_and_then}
 use Rattle.std.specs.Str.{bytes_eq}
 use Rattle.cm_base.specs.Causes.{Rose}
 use Rattle.cm_base.specs.declared.hash.Hash.{Hash}
-use Rattle.cm_pkglib.specs.Rows.{last_of}
+use Rattle.cm_pkglib.specs.Rows.{last_of, is_of}
 use Rattle.cm_intake.specs.Readings.{AreReadings, change_of, first_with, is_changed, least_hash, first_change}
-use Rattle.cm_intake.specs.Intake.{Intake, intake, first_read, scanned, within_limits, read_again, finished_or, finished, dropped, refused, of_scan, of_limit}
+use Rattle.cm_intake.specs.Intake.{intake, first_read, scanned, within_limits, read_again, finished_or, of_scan, of_limit}
 use Rattle.cm_intake.specs.declared.taken.Taken.{Taken}
 use Rattle.cm_intake.specs.declared.fault.IntakeFault.{IntakeFault}
 use Rattle.cm_intake.specs.declared.fault.IntakeFault.TheVariants.{Folder, TooManyFiles as ManyFiles, BadPath as PathOff, SamePath as PathTwice, FileTooLong as LongFile, TooManyVersions as ManyVersions, TooManyEntries as ManyEntries, TooManyJobs as ManyJobs, Spent as NoneLeft, Changed as OtherBytes, Disk as DiskFails, Memory as NoMemory}
 use Rattle.cm_state.specs.Faults.{limit_fault}
 use Rattle.cm_state.specs.Look.{Library, Missing, Opened, Unreadable}
 use Rattle.cm_state.specs.Changes.{Dropped as JobDropped}
-use Rattle.cm_state.specs.State.{State, held_by_job, version_rows, job_rows}
+use Rattle.cm_state.specs.State.{Held, State, held_by_job, version_rows, job_rows}
 use Rattle.cm_state.specs.declared.fault.LibFault.{LibFault}
 use Rattle.cm_state.specs.declared.fault.LibFault.TheVariants.{NoJob}
 use Rattle.cm_tree.specs.Paths.{is_file_path, has_path, folded_path}
@@ -24,11 +24,10 @@ use Rattle.cm_tree.specs.declared.entry.Entry.{Entry}
 use Rattle.cm_tree.specs.declared.scan_fault.ScanFault.{ScanFault}
 use Rattle.cm_tree.specs.declared.scan_fault.ScanFault.TheVariants.{Folder as FolderFails, TooManyFiles, BadPath, SamePath, FileTooLong, Memory as ScanMemory}
 use Rattle.cm_top.specs.Bays.{site}
-use Rattle.cm_top.specs.Machine.{Given, Step, no_bay, refused_or_made, reply_to, taken_in, add_behind, update_behind, drop_in, listed, told}
+use Rattle.cm_top.specs.Machine.{Given, Step, no_bay, refused_or_made, reply_to, taken_in, add_behind, update_behind, drop_in, listed, validated, validate_in, tells_loose, purges, commits, told}
 use Rattle.cm_top.specs.Runs.{Sourced, step}
-use Rattle.cm_top.specs.Worlds.{Commits}
 use Rattle.cm_top.specs.declared.line.Line.{Line}
-use Rattle.cm_top.specs.declared.line.Line.TheVariants.{Init, Add, Update, Drop, List as ListBay}
+use Rattle.cm_top.specs.declared.line.Line.TheVariants.{Init, Add, Update, Drop, List as ListBay, Validate, WhatIf, Purge}
 use Rattle.cm_top.specs.declared.reply.Reply.{Reply}
 use Rattle.cm_top.specs.declared.reply.Reply.TheVariants.{Dropped, Versions, Refused, Source}
 use Rattle.cm_top.specs.declared.reply.Refusal.TheVariants.{NoJob as NoSuchJob, NoBay, VersionsSpent}
@@ -162,11 +161,26 @@ listed_not false x y a b e = b e
 drop_not : (bay : List ℕ) (job : ℕ) (state : State) → Source ≡ (if bytes_eq bay site then drop_in job state else told (Refused (NoBay bay))).reply → ⊥
 drop_not bay job state e =
     either_not (bytes_eq bay site) (drop_in job state) (told (Refused (NoBay bay)))
-    (λ d. either_not (is_some (held_by_job job state.jobs)) (record { reply = Dropped; deed = Commits (JobDropped job ∷ []) }) (told (Refused NoSuchJob)) (λ f. cc) (λ f. cc) d)
+    (λ d. either_not (is_some (held_by_job job state.jobs)) (commits Dropped (JobDropped job ∷ [])) (told (Refused NoSuchJob)) (λ f. cc) (λ f. cc) d)
     (λ d. cc) e
 
 list_not : (bay : List ℕ) (state : State) → Source ≡ listed bay state → ⊥
 list_not bay state e = listed_not (bytes_eq bay site) (Versions (version_rows state) (job_rows state)) (Refused (NoBay bay)) (λ d. cc) (λ d. cc) e
+
+validated_not : (given : Given) (found : Option Held) → Source ≡ (validated given found).reply → ⊥
+validated_not given None e = cc
+validated_not given (Some held) e = cc
+
+validate_not : (bay id : List ℕ) (version : ℕ) (given : Given) (state : State) → Source ≡ (if bytes_eq bay site then validate_in id version given state else told (Refused (NoBay bay))).reply → ⊥
+validate_not bay id version given state e =
+    either_not (bytes_eq bay site) (validate_in id version given state) (told (Refused (NoBay bay)))
+    (λ d. validated_not given (find (λ (held : Held). is_of id version held.row) state.versions) d) (λ d. cc) e
+
+what_if_not : (bay : List ℕ) (given : Given) → Source ≡ (if bytes_eq bay site then tells_loose given else told (Refused (NoBay bay))).reply → ⊥
+what_if_not bay given e = either_not (bytes_eq bay site) (tells_loose given) (told (Refused (NoBay bay))) (λ d. cc) (λ d. cc) e
+
+purge_not : (bay : List ℕ) (given : Given) → Source ≡ (if bytes_eq bay site then purges given else told (Refused (NoBay bay))).reply → ⊥
+purge_not bay given e = either_not (bytes_eq bay site) (purges given) (told (Refused (NoBay bay))) (λ d. cc) (λ d. cc) e
 
 -- a step replies so only where a reading failed
 pub step_failed : (line : Line) (given : Given) (library : Library) → Source ≡ (step line given library).reply → Failed given
@@ -183,6 +197,15 @@ step_failed (Drop bay job) given (Unreadable place at) e = cc
 step_failed (ListBay bay) given Missing e = cc
 step_failed (ListBay bay) given (Opened state) e = absurd (list_not bay state e)
 step_failed (ListBay bay) given (Unreadable place at) e = cc
+step_failed (Validate bay id version) given Missing e = cc
+step_failed (Validate bay id version) given (Opened state) e = absurd (validate_not bay id version given state e)
+step_failed (Validate bay id version) given (Unreadable place at) e = cc
+step_failed (WhatIf bay) given Missing e = cc
+step_failed (WhatIf bay) given (Opened state) e = absurd (what_if_not bay given e)
+step_failed (WhatIf bay) given (Unreadable place at) e = cc
+step_failed (Purge bay) given Missing e = cc
+step_failed (Purge bay) given (Opened state) e = absurd (purge_not bay given e)
+step_failed (Purge bay) given (Unreadable place at) e = cc
 
 -- then the folder's count rose
 pub folder_rose : (from to : Sourced) (given : Given) → AreReadings from.shown from.faults to.faults given.readings → Failed given → Rose from.faults to.faults

@@ -1,7 +1,6 @@
 -- What each status of a run tells.
 use Rattle.std.proofs.Common.{◌≡◌, ◌≢◌, ◌⊎◌, ℕ, List, [], ◌∷◌, Option, Result, Ok, Err, inl, inr, refl, subst, arith}
 use Rattle.cm_base.specs.Causes.{Rose}
-use Rattle.cm_base.specs.declared.hash.Hash.{Hash}
 use Rattle.cm_disk.specs.Disk.{File, Files}
 use Rattle.cm_top.specs.Bays.{OnSite}
 use Rattle.cm_top.specs.Causes.{HasCauses, TellsChange}
@@ -12,7 +11,7 @@ use Rattle.cm_top.specs.declared.bay.Bay.{Bay}
 use Rattle.cm_top.specs.declared.fault.WordsFault.{WordsFault}
 use Rattle.cm_top.specs.declared.fault.WordsFault.TheVariants.{NoCommand, UnknownCommand, BadValue, MissingWord, ExtraWord, Memory as NoMemory}
 use Rattle.cm_top.specs.declared.reply.Reply.{Reply}
-use Rattle.cm_top.specs.declared.reply.Reply.TheVariants.{Made, Added, Dropped, Changed, Versions, Refused, Source, Disk, Memory, NoLibrary, Unreadable}
+use Rattle.cm_top.specs.declared.reply.Reply.TheVariants.{Made, Changed, Source, Disk, Memory}
 use Rattle.cm_top.specs.declared.reply.Ended.TheVariants.{Usage, Replied}
 use Rattle.cm_top.specs.declared.line.Line.{Line}
 use Rattle.cm_top.proofs.Sources.{step_failed, folder_rose}

@@ -1,5 +1,5 @@
 -- The ends of `add` and `update` on an opened library, into which the folder is taken.
-use Rattle.std.proofs.Common.{◌≡◌, ℕ, List, length, Option, Some, Result, Ok, Err, refl, sym, ◌∙◌, ap, subst}
+use Rattle.std.proofs.Common.{◌≡◌, ℕ, List, [], length, Option, Some, Result, Ok, Err, refl, sym, ◌∙◌, ap, subst}
 use Rattle.std.specs.Prelude.{IsErrOf}
 use Rattle.cm_base.specs.Causes.{Rose}
 use Rattle.cm_disk.specs.Disk.{File, Files, IsImage}
@@ -12,11 +12,12 @@ use Rattle.cm_library.specs.Placing.{KeepsPlaces}
 use Rattle.cm_state.specs.Adding.{Told}
 use Rattle.cm_state.specs.Look.{Opened}
 use Rattle.cm_state.specs.State.{State}
-use Rattle.cm_top.specs.Machine.{Given, Step, opened, reply_to, taken_in}
+use Rattle.cm_top.specs.Machine.{Given, Step, opened, commits, reply_to, taken_in}
 use Rattle.cm_top.specs.Opened.{IsOpened}
 use Rattle.cm_top.specs.Runs.{Sourced, Starts, EndsOn}
 use Rattle.cm_top.specs.declared.reply.Reply.{Reply}
-use Rattle.cm_top.proofs.Closing.{does, Leaves, IsTold, ends_told, steps_closed, gives_up_closed, ends_disk}
+use Rattle.cm_top.proofs.Closing.{Leaves, IsTold, ends_told, steps_closed, gives_up_closed, ends_disk}
+use Rattle.cm_top.proofs.SomeFiles.{amiss_or, amiss_told}
 
 module _ {D : Type 0} (reads : D → Option Files) (may_leave : D → List ℕ → File → Type 0) (moment : D → ℕ) (left_since : D → ℕ → Files → Type 0) (faults : D → ℕ) (was now : Seen D)
     (open_is : IsOpened reads may_leave moment left_since faults was) (id : List ℕ) (version : ℕ) (from to : Sourced) (outcome : Result Taken IntakeFault)
@@ -25,13 +26,13 @@ module _ {D : Type 0} (reads : D → Option Files) (may_leave : D → List ℕ �
     (as_it_reads : (files : Files) → reads now.disk ≡ Some files → IsImage (may_leave now.disk) files)
     (step : Given → State → Step) (gives : (given : Given) → step given was.state ≡ taken_in id version given was.state) where
   abbrev given : Given
-  given = record { readings = takes.readings; gate = was.end }
+  given = record { readings = takes.readings; gate = was.end; amiss = amiss_or (reads was.start); loose = [] }
 
   abbrev taken : Intake
   taken = intake id version was.end takes.readings was.state
 
   starts : Starts from to (reads was.start) given (Opened was.state)
-  starts = record { readings = takes.are; gate = open_is.gate; library_is = open_is.stands }
+  starts = record { readings = takes.are; gate = open_is.gate; amiss = amiss_told (reads was.start); library_is = open_is.stands }
 
   -- it was taken in whole, or refused
   whole : (result : Result Taken IntakeFault) → IsTold (reply_to id version result) → (result ≡ taken.answer) × Rests reads may_leave moment left_since (length taken.changes) taken.changes was now
@@ -39,7 +40,7 @@ module _ {D : Type 0} (reads : D → Option Files) (may_leave : D → List ℕ �
   whole result is_told ends =
       ends_told reads may_leave moment left_since faults (λ given. opened (step given)) from to was.start now.disk (reply_to id version result) is_told
       (steps_closed reads may_leave moment left_since faults was now open_is places leaves taken.changes (λ given. opened (step given)) from to given starts (reply_to id version result)
-      (gives given ∙ ap (λ (r : Result Taken IntakeFault). does (reply_to id version r) taken.changes) (sym ends.0)) ends.1)
+      (gives given ∙ ap (λ (r : Result Taken IntakeFault). commits (reply_to id version r) taken.changes) (sym ends.0)) ends.1)
 
   by : (result : Result Taken IntakeFault) → EndsAs reads may_leave moment left_since takes.readings taken was now result → (IsErrOf result DiskFails → Rose (faults was.disk) (faults now.disk))
       → EndsOn reads may_leave moment left_since faults (λ given. opened (step given)) from to (reply_to id version result) was.start now.disk

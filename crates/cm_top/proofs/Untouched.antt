@@ -1,15 +1,16 @@
 -- The ends of a step of which nothing was done: the disk reads as before, and a crash leaves at each moment what it might have left before.
 use Rattle.std.proofs.Common.{◌≡◌, ℕ, ◌≤◌, List, Option, inl, inr, refl, sym, ◌∙◌, ap, subst, arith}
+use Rattle.std.specs.Prelude.{true}
 use Rattle.std.specs.Option.{ForSome}
+use Rattle.std.proofs.lemmas.Bool.{false≢true}
 use Rattle.cm_disk.specs.Disk.{File, Files, IsImage, LeavesOnly}
 use Rattle.cm_disk.proofs.Moments.{weaker}
-use Rattle.cm_library.specs.Placing.{KeepsPlaces}
 use Rattle.cm_state.specs.Adding.{Told}
 use Rattle.cm_state.specs.Becomes.{IsLibrary, Becomes}
 use Rattle.cm_state.specs.Look.{Library, Missing, Opened, Unreadable}
 use Rattle.cm_top.specs.Machine.{Given, Step, replied}
-use Rattle.cm_top.specs.Runs.{Sourced, Moves, IsDone, Steps, GivesUp, Stops}
-use Rattle.cm_top.specs.Worlds.{Deed, Nothing, NewLibrary, Commits, steps_of, after, LeavesBy}
+use Rattle.cm_top.specs.Runs.{Sourced, KeepsBy, Moves, IsDone, HasRemoved, Steps, GivesUp, Stops}
+use Rattle.cm_top.specs.Worlds.{Deed, Nothing, NewLibrary, Commits, Purge, steps_of, after, LeavesBy}
 use Rattle.cm_top.specs.declared.reply.Reply.{Reply}
 use Rattle.cm_top.proofs.SomeFiles.{some_given, starts, some_library}
 
@@ -20,16 +21,31 @@ after_none NewLibrary library = refl
 after_none (Commits changes) Missing = refl
 after_none (Commits changes) (Opened state) = refl
 after_none (Commits changes) (Unreadable place at) = refl
+after_none Purge library = refl
 
 -- what a crash might have left at the entry is among what it leaves at any moment of a deed
 pub leaves_by : (may_leave : List ℕ → File → Type 0) (deed : Deed) (library : Library) (files : Files) → IsImage may_leave files → LeavesBy may_leave deed library files
 leaves_by may_leave Nothing library files image = image
 leaves_by may_leave NewLibrary library files image = inl image
 leaves_by may_leave (Commits changes) library files image = inl image
+leaves_by may_leave Purge library files image = inl image
+
+-- a deed may change nothing
+keeps_same : (deed : Deed) (library : Library) (files : Files) → KeepsBy deed library files files
+keeps_same Nothing library files = record { others = λ q elsewhere. refl; kept = λ q there. there }
+keeps_same NewLibrary library files = record { others = λ q elsewhere. refl; kept = λ q there. there }
+keeps_same (Commits changes) library files = record { others = λ q elsewhere. refl; kept = λ q there. there }
+keeps_same Purge Missing files = λ q. refl
+keeps_same Purge (Opened state) files = record { kept = λ q needed. refl; gone_or = λ q loose. record { bytes = λ i. inl refl; there = inl refl } }
+keeps_same Purge (Unreadable place at) files = λ q. refl
 
 -- no place was written
-pub places_same : (old new : Option Files) → new ≡ old → Told KeepsPlaces old new
-places_same old new same files told = (files, same ∙ told, record { others = λ q elsewhere. refl; kept = λ q there. there })
+pub places_same : (deed : Deed) (library : Library) (old new : Option Files) → new ≡ old → Told (KeepsBy deed library) old new
+places_same deed library old new same files told = (files, same ∙ told, keeps_same deed library files)
+
+-- a reply without an opening asks for nothing
+asks_none : (step : Step) (reply : Reply) → step ≡ replied reply → step.asks ≡ true → ⊥
+asks_none step reply is asks = false≢true (sym (ap (λ (s : Step). s.asks) is) ∙ asks)
 
 -- a disk that reads as before is the library that it was
 pub becomes_same : (old new : Option Files) (library : Library) → new ≡ old → IsLibrary old library → Becomes old new library
@@ -49,7 +65,7 @@ module _ {D : Type 0} (reads : D → Option Files) (may_leave : D → List ℕ �
 
   moves : (deed : Deed) (library : Library) → Moves reads may_leave moment left_since deed library old new
   moves deed library = record {
-    places = places_same (reads old) (reads new) same;
+    places = places_same deed library (reads old) (reads new) same;
     same = λ none. same;
     moments = λ each files told. weaker moment left_since old new (IsImage (may_leave old)) (LeavesBy (may_leave old) deed library) (run files told) (leaves_by (may_leave old) deed library);
   }
@@ -67,10 +83,12 @@ module _ {D : Type 0} (reads : D → Option Files) (may_leave : D → List ℕ �
           given = given;
           library = library;
           starts = starts from to (reads old) library is;
+          asked = λ asks. absurd (asks_none (step given library) reply (gives given) asks);
           replies = ap (λ (s : Step). s.reply) back;
           moves = moves (step given library).deed library;
           becomes = subst (λ (s : Step). Becomes (reads old) (reads new) (after (steps_of s.deed) s.deed library)) back (becomes_same (reads old) (reads new) library same is);
           done = subst (λ (s : Step). IsDone reads may_leave s.deed library old new) back was_image;
+          removed = subst (λ (s : Step). HasRemoved reads may_leave s.deed library old new) back tt;
         }
 
     -- there was no memory before the first step

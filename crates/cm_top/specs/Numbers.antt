@@ -12,3 +12,7 @@ number_within least most text = let number = digits_value 10 text in
 -- the number of a job, from 1 to 2^64 - 1
 abbrev pub job_of : List ℕ → Option ℕ
 job_of text = number_within 1 (2 ^ 64 - 1) text
+
+-- the number of a version, from 1 to 2^32 - 1
+abbrev pub version_of : List ℕ → Option ℕ
+version_of text = number_within 1 (2 ^ 32 - 1) text

@@ -1,16 +1,19 @@
 -- What is printed, and the status.
-use Rattle.std.specs.Prelude.{ℕ, List, [], ◌∷◌, ◌++◌, codes}
+use Rattle.std.specs.Prelude.{ℕ, List, [], ◌∷◌, ◌++◌, length, codes}
 use Rattle.std.specs.List.{flat_map}
 use Rattle.std.specs.Fmt.{decimal}
 use Rattle.hex.specs.Hex.{encode_lower}
+use Rattle.cm_check.specs.declared.finding.Finding.{Finding}
+use Rattle.cm_check.specs.declared.finding.FindingKind.{FindingKind}
+use Rattle.cm_check.specs.declared.finding.FindingKind.TheVariants.{Missing, Differs}
 use Rattle.cm_state.specs.declared.row.VersionRow.{VersionRow}
 use Rattle.cm_state.specs.declared.row.JobRow.{JobRow}
 use Rattle.cm_top.specs.declared.fault.WordsFault.{WordsFault}
 use Rattle.cm_top.specs.declared.fault.WordsFault.TheVariants.{NoCommand, UnknownCommand, BadValue, MissingWord, ExtraWord, Memory as NoMemory}
 use Rattle.cm_top.specs.declared.reply.Refusal.{Refusal}
-use Rattle.cm_top.specs.declared.reply.Refusal.TheVariants.{PackageThere, NoPackage, NoJob, TooManyVersions, TooManyEntries, TooManyJobs, NoBay, BadPath, SamePath, TooManyFiles, FileTooLong, VersionsSpent, Spent}
+use Rattle.cm_top.specs.declared.reply.Refusal.TheVariants.{NoVersion, PackageThere, NoPackage, NoJob, TooManyVersions, TooManyEntries, TooManyJobs, NoBay, BadPath, SamePath, TooManyFiles, FileTooLong, VersionsSpent, Spent}
 use Rattle.cm_top.specs.declared.reply.Reply.{Reply}
-use Rattle.cm_top.specs.declared.reply.Reply.TheVariants.{Made, Added, Dropped, Versions, Refused, Source, Changed, Disk, Memory, NoLibrary, Unreadable}
+use Rattle.cm_top.specs.declared.reply.Reply.TheVariants.{Made, Added, Dropped, Versions, Findings, Loose, Purged, Refused, Source, Changed, Disk, Memory, NoLibrary, Unreadable}
 use Rattle.cm_top.specs.declared.reply.Ended.{Ended}
 use Rattle.cm_top.specs.declared.reply.Ended.TheVariants.{Usage, Replied}
 
@@ -35,6 +38,7 @@ usage_words NoMemory = codes "memory" ∷ []
 
 -- the number, the name and the kept values of a refusal
 abbrev pub refusal_words : Refusal → List (List ℕ)
+refusal_words NoVersion = codes "1" ∷ codes "NoVersion" ∷ []
 refusal_words (PackageThere last) = codes "2" ∷ codes "PackageThere" ∷ decimal last ∷ []
 refusal_words NoPackage = codes "3" ∷ codes "NoPackage" ∷ []
 refusal_words NoJob = codes "4" ∷ codes "NoJob" ∷ []
@@ -57,11 +61,31 @@ version_line row = spoken (row.package ∷ decimal row.version ∷ codes "done" 
 abbrev pub job_line : JobRow → List ℕ
 job_line row = spoken (row.package ∷ decimal row.version ∷ codes "job" ∷ decimal row.job ∷ decimal row.entries ∷ decimal row.bytes ∷ [])
 
+-- the line of a finding: `missing` and the path; or `differs`, the path, the hash that is named and the one that was got
+abbrev pub kind_line : List ℕ → FindingKind → List ℕ
+kind_line path Missing = spoken (codes "missing" ∷ path ∷ [])
+kind_line path (Differs named size got bytes) = spoken (codes "differs" ∷ path ∷ encode_lower named.0 ∷ encode_lower got.0 ∷ [])
+
+abbrev pub finding_line : Finding → List ℕ
+finding_line finding = kind_line finding.path finding.kind
+
+-- a line for each finding; where there is none, how many files are valid
+abbrev pub findings_text : ℕ → List Finding → List ℕ
+findings_text files [] = spoken (codes "valid" ∷ decimal files ∷ [])
+findings_text files (finding ∷ rest) = finding_line finding ++ flat_map finding_line rest
+
+-- a place on a line of its own
+abbrev pub place_line : List ℕ → List ℕ
+place_line place = spoken (place ∷ [])
+
 abbrev pub reply_text : Reply → List ℕ
 reply_text (Made count) = spoken (codes "made" ∷ decimal count ∷ [])
 reply_text (Added id version files bytes) = spoken (codes "added" ∷ id ∷ decimal version ∷ codes "files" ∷ decimal files ∷ codes "bytes" ∷ decimal bytes ∷ [])
 reply_text Dropped = spoken (codes "dropped" ∷ [])
 reply_text (Versions versions jobs) = flat_map version_line versions ++ flat_map job_line jobs
+reply_text (Findings files list) = findings_text files list
+reply_text (Loose places) = flat_map place_line places ++ spoken (codes "loose" ∷ decimal (length places) ∷ [])
+reply_text (Purged files manifests) = spoken (codes "purged" ∷ codes "files" ∷ decimal files ∷ codes "manifests" ∷ decimal manifests ∷ [])
 reply_text (Refused refusal) = spoken (codes "refused" ∷ refusal_words refusal)
 reply_text Source = spoken (codes "source" ∷ [])
 reply_text (Changed path first first_size second second_size) =
@@ -80,6 +104,9 @@ reply_status (Made count) = 0
 reply_status (Added id version files bytes) = 0
 reply_status Dropped = 0
 reply_status (Versions versions jobs) = 0
+reply_status (Findings files list) = 0
+reply_status (Loose places) = 0
+reply_status (Purged files manifests) = 0
 reply_status (Refused refusal) = 1
 reply_status Source = 3
 reply_status (Changed path first first_size second second_size) = 3

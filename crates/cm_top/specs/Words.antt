@@ -6,8 +6,8 @@ use Rattle.cm_base.specs.Names.{name_of, is_package_id, text_if}
 use Rattle.cm_top.specs.declared.fault.WordsFault.{WordsFault}
 use Rattle.cm_top.specs.declared.fault.WordsFault.TheVariants.{NoCommand, UnknownCommand, BadValue, MissingWord, ExtraWord}
 use Rattle.cm_top.specs.declared.line.Line.{Line}
-use Rattle.cm_top.specs.declared.line.Line.TheVariants.{Init, Add, Update, Drop, List as ListBay}
-use Rattle.cm_top.specs.Numbers.{job_of}
+use Rattle.cm_top.specs.declared.line.Line.TheVariants.{Init, Add, Update, Drop, List as ListBay, Validate, WhatIf, Purge}
+use Rattle.cm_top.specs.Numbers.{job_of, version_of}
 
 -- the bytes of each word
 abbrev pub texts : {A : Type 0} → List (String A) → List (List ℕ)
@@ -106,6 +106,29 @@ read_drop words =
     and_then (value_at job_of 2 values) (λ job.
     Ok (Drop bay job))))
 
+-- the words behind `validate`: a bay, a package and a version
+abbrev pub read_validate : List (List ℕ) → Result Line WordsFault
+read_validate words =
+    and_then (counted_values 3 words) (λ values.
+    and_then (value_at name_of 1 values) (λ bay.
+    and_then (value_at package_of 2 values) (λ id.
+    and_then (value_at version_of 3 values) (λ version.
+    Ok (Validate bay id version)))))
+
+-- the words behind `what-if`: a bay
+abbrev pub read_what_if : List (List ℕ) → Result Line WordsFault
+read_what_if words =
+    and_then (counted_values 1 words) (λ values.
+    and_then (value_at name_of 1 values) (λ bay.
+    Ok (WhatIf bay)))
+
+-- the words behind `purge`: a bay
+abbrev pub read_purge : List (List ℕ) → Result Line WordsFault
+read_purge words =
+    and_then (counted_values 1 words) (λ values.
+    and_then (value_at name_of 1 values) (λ bay.
+    Ok (Purge bay)))
+
 -- the line that the words say, or why they are refused
 abbrev pub read_line : List (List ℕ) → Result Line WordsFault
 read_line [] = Err NoCommand
@@ -115,4 +138,7 @@ read_line (word ∷ words) =
     else (if bytes_eq word (codes "update") then read_update words
     else (if bytes_eq word (codes "list") then read_list words
     else (if bytes_eq word (codes "drop") then read_drop words
-    else Err UnknownCommand))))
+    else (if bytes_eq word (codes "validate") then read_validate words
+    else (if bytes_eq word (codes "what-if") then read_what_if words
+    else (if bytes_eq word (codes "purge") then read_purge words
+    else Err UnknownCommand)))))))

@@ -6,20 +6,22 @@ use Rattle.cm_state.specs.Look.{Library, Missing, Opened, Unreadable, look}
 use Rattle.cm_state.specs.Opens.{Opens}
 use Rattle.cm_state.specs.State.{empty}
 
--- What a command does to a library: nothing, without opening it; it makes a new one; or it opens it and commits changes in their order,
--- of which there may be none.
+-- What a command does to a library: nothing, without opening it; it makes a new one; it opens it and commits changes in their order, of
+-- which there may be none; or it opens it and removes what it does not need.
 pub data Deed : Type 0 where
   Nothing : Deed
   NewLibrary : Deed
   Commits : List StateChange → Deed
+  Purge : Deed
 
 -- how many steps a deed has
 abbrev pub steps_of : Deed → ℕ
 steps_of Nothing = 0
 steps_of NewLibrary = 1
 steps_of (Commits changes) = length changes
+steps_of Purge = 1
 
--- the library after the first n of them
+-- the library after the first n of them, which is the same after a purge
 abbrev pub after : ℕ → Deed → Library → Library
 after n Nothing library = library
 after zero NewLibrary library = library
@@ -27,6 +29,7 @@ after (suc n) NewLibrary library = Opened empty
 after n (Commits changes) Missing = Missing
 after n (Commits changes) (Opened state) = Opened (replayed (take n changes) state)
 after n (Commits changes) (Unreadable place at) = Unreadable place at
+after n Purge library = library
 
 -- files open to a library: they have none; or they open to its state, with each file of its versions; or they are not readable there
 abbrev pub OpensTo : Library → Files → Type 0
@@ -43,3 +46,4 @@ abbrev pub LeavesBy : (List ℕ → File → Type 0) → Deed → Library → Fi
 LeavesBy may_leave Nothing library files = IsImage may_leave files
 LeavesBy may_leave NewLibrary library files = IsImage may_leave files ⊎ OpensAmong NewLibrary library files
 LeavesBy may_leave (Commits changes) library files = IsImage may_leave files ⊎ OpensAmong (Commits changes) library files
+LeavesBy may_leave Purge library files = IsImage may_leave files ⊎ OpensAmong Purge library files

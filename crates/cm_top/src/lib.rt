@@ -9,11 +9,13 @@ mod init;
 mod line;
 mod listing;
 mod opening;
+mod purging;
 mod reply;
 mod running;
 mod say;
 mod show;
 mod texts;
+mod validating;
 mod words;
 
 pub use bay::Bay;

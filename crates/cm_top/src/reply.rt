@@ -1,12 +1,15 @@
 //! What a command answers.
 use crate::WordsFault;
 use cm_base::{Hash, List, PackageId, Place, ServerName, Version};
+use cm_check::Finding;
 use cm_library::{JobRow, VersionRow};
 use cm_tree::FilePath;
 
 /// Why a command is refused.
 #[derive(Clone, Copy)]
 pub enum Refusal {
+    /// 1: the bay's library has no such version.
+    NoVersion,
     /// 2: the site's library has opened a version of the package, this one last.
     PackageThere { last: Version },
     /// 3: the site's library has never opened a version of the package.
@@ -63,6 +66,20 @@ pub enum Reply {
     Versions {
         versions: List<VersionRow>,
         jobs: List<JobRow>,
+    },
+    /// What is amiss with the stored files of a version of so many files, in the order of its manifest.
+    Findings {
+        files: u32,
+        list: List<Finding>,
+    },
+    /// The places that a purge would remove, in byte order.
+    Loose {
+        places: List<Place>,
+    },
+    /// So many files and manifests were removed.
+    Purged {
+        files: u32,
+        manifests: u32,
     },
     /// The command is refused.
     Refused {

@@ -9,7 +9,9 @@ use crate::adding::{add, update};
 use crate::dropping::drop_job;
 use crate::init::init;
 use crate::listing::list;
+use crate::purging::{purge, what_if};
 use crate::show::show;
+use crate::validating::validate;
 use crate::{Bay, Ended, Line, Reply, read_words};
 use cm_base::{Sink, Source};
 use cm_disk::Disk;
@@ -32,6 +34,13 @@ fn answer<F: Folder, D: Disk + Drop>(
         Line::Update { package } => update(alloc, package, folder, bays),
         Line::Drop { bay, job } => drop_job(alloc, bay, job, bays),
         Line::List { bay } => list(alloc, bay, bays),
+        Line::Validate {
+            bay,
+            package,
+            version,
+        } => validate(alloc, bay, package, version, bays),
+        Line::WhatIf { bay } => what_if(alloc, bay, bays),
+        Line::Purge { bay } => purge(alloc, bay, bays),
     }
 }
 
@@ -62,7 +71,8 @@ fn run_words<F: Folder, K: Sink, D: Disk + Drop>(
 /// status are those of the machine's step on the library that the site's bay was at the entry, and the bay is the library after it; or the
 /// run ends by a status of 3 to 6 with its cause, and the bay is the library after a prefix of the step's changes. Where each image of the
 /// disk opened to some state at the entry, each image at any moment was one at the entry or opens to the library after such a prefix,
-/// with every file of its versions. Bytes change at places of a library alone, and no file is removed.
+/// with every file of its versions. Bytes change at places of a library alone. `purge` removes what no version and no unfinished job
+/// needs, and no other command removes a file.
 pub fn run<S: Source, F: Folder, K: Sink, D: Disk + Drop>(
     alloc: Global,
     words: &[String],

@@ -1,10 +1,12 @@
 //! The text and the status of how a run ends.
 ghost use Rattle.std.specs.Prelude.{◌≡◌, ◌++◌, OnOk, IfOk};
 ghost use Rattle.std.specs.List.{flat_map};
-ghost use Rattle.cm_top.specs.Texts.{spoken, usage_words, version_line, job_line, reply_text, text, status};
+ghost use Rattle.cm_top.specs.Texts.{spoken, usage_words, version_line, job_line, finding_line, findings_text, place_line, reply_text, text, status};
 
 use crate::say::say;
 use crate::{Ended, Refusal, Reply, WordsFault};
+use cm_base::Place;
+use cm_check::{Finding, FindingKind};
 use cm_library::{JobRow, VersionRow};
 use std::alloc::{AllocError, Global};
 
@@ -31,6 +33,7 @@ fn refused(alloc: Global, out: &mut Vec<u8>, refusal: Refusal) -> Result<(), All
     ensures { OnOk result (out.new.items ≡ out.old.items ++ reply_text (Reply.Refused refusal)) }
 {
     match refusal {
+        Refusal::NoVersion => say(out, &[b"refused", b"1", b"NoVersion"]),
         Refusal::PackageThere { last } => {
             let last = last.number().to_string(alloc)?;
             say(out, &[b"refused", b"2", b"PackageThere", last.as_bytes()])
@@ -115,6 +118,62 @@ fn job_lines(alloc: Global, out: &mut Vec<u8>, rows: &[JobRow]) -> Result<(), Al
     Ok(())
 }
 
+fn finding_in(out: &mut Vec<u8>, finding: &Finding) -> Result<(), AllocError>
+    ensures { OnOk result (out.new.items ≡ out.old.items ++ finding_line finding.now) }
+{
+    match &finding.kind {
+        FindingKind::Missing => say(out, &[b"missing", finding.path.as_bytes()]),
+        FindingKind::Differs { named, got, .. } => {
+            let mut named_digits = [0; 64];
+            named.write(&mut named_digits);
+            let mut got_digits = [0; 64];
+            got.write(&mut got_digits);
+            say(
+                out,
+                &[
+                    b"differs",
+                    finding.path.as_bytes(),
+                    &named_digits,
+                    &got_digits,
+                ],
+            )
+        }
+    }
+}
+
+fn finding_lines(out: &mut Vec<u8>, list: &[Finding]) -> Result<(), AllocError>
+    ensures { OnOk result (out.new.items ≡ out.old.items ++ flat_map finding_line list.now) }
+{
+    for finding in list {
+        finding_in(out, finding)?;
+    }
+    Ok(())
+}
+
+fn findings_in(
+    alloc: Global,
+    out: &mut Vec<u8>,
+    files: u32,
+    list: &[Finding],
+) -> Result<(), AllocError>
+    ensures { OnOk result (out.new.items ≡ out.old.items ++ findings_text files list.now) }
+{
+    if list.is_empty() {
+        let files = files.to_string(alloc)?;
+        return say(out, &[b"valid", files.as_bytes()]);
+    }
+    finding_lines(out, list)
+}
+
+fn place_lines(out: &mut Vec<u8>, places: &[Place]) -> Result<(), AllocError>
+    ensures { OnOk result (out.new.items ≡ out.old.items ++ flat_map place_line places.now) }
+{
+    for place in places {
+        say(out, &[place.as_bytes()])?;
+    }
+    Ok(())
+}
+
 fn reply(alloc: Global, out: &mut Vec<u8>, reply: &Reply) -> Result<(), AllocError>
     ensures { OnOk result (out.new.items ≡ out.old.items ++ reply_text reply.now) }
 {
@@ -149,6 +208,26 @@ fn reply(alloc: Global, out: &mut Vec<u8>, reply: &Reply) -> Result<(), AllocErr
         Reply::Versions { versions, jobs } => {
             version_lines(alloc, out, versions.items())?;
             job_lines(alloc, out, jobs.items())
+        }
+        Reply::Findings { files, list } => findings_in(alloc, out, *files, list.items()),
+        Reply::Loose { places } => {
+            place_lines(out, places.items())?;
+            let count = places.items().len().to_string(alloc)?;
+            say(out, &[b"loose", count.as_bytes()])
+        }
+        Reply::Purged { files, manifests } => {
+            let files = files.to_string(alloc)?;
+            let manifests = manifests.to_string(alloc)?;
+            say(
+                out,
+                &[
+                    b"purged",
+                    b"files",
+                    files.as_bytes(),
+                    b"manifests",
+                    manifests.as_bytes(),
+                ],
+            )
         }
         Reply::Refused { refusal } => refused(alloc, out, *refusal),
         Reply::Source => say(out, &[b"source"]),
@@ -218,7 +297,13 @@ pub(crate) fn status_of(ended: &Ended) -> u8
             _ => 2,
         },
         Ended::Replied { reply } => match reply {
-            Reply::Made { .. } | Reply::Added { .. } | Reply::Dropped | Reply::Versions { .. } => 0,
+            Reply::Made { .. }
+            | Reply::Added { .. }
+            | Reply::Dropped
+            | Reply::Versions { .. }
+            | Reply::Findings { .. }
+            | Reply::Loose { .. }
+            | Reply::Purged { .. } => 0,
             Reply::Refused { .. } => 1,
             Reply::Source | Reply::Changed { .. } => 3,
             Reply::Disk { .. } => 5,

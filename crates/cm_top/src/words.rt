@@ -1,14 +1,14 @@
 //! The words of the command line are read.
 ghost use Rattle.std.specs.Prelude.{◌≡◌, ◌≢◌, ℕ, ◌+◌, ◌-◌, ◌<◌, ◌≤◌, ◌^◌, ◌↔◌, List, Some, length, slice_get, slice_index, option_map, IsTrue, OnOk, IfOk, IfErr, Ok, Err};
 ghost use Rattle.std.specs.Fmt.{decimal};
-ghost use Rattle.cm_top.specs.Numbers.{number_within, job_of};
+ghost use Rattle.cm_top.specs.Numbers.{number_within, job_of, version_of};
 ghost use Rattle.cm_top.specs.Words.{texts, is_option, is_end, has_option, values_of, counted_values, value_at, names_from, package_of};
-ghost use Rattle.cm_top.specs.Words.{read_init, read_add, read_update, read_list, read_drop, read_line};
+ghost use Rattle.cm_top.specs.Words.{read_init, read_add, read_update, read_list, read_drop, read_validate, read_what_if, read_purge, read_line};
 ghost use Rattle.cm_base.specs.Names.{name_of};
 ghost use Rattle.cm_top.specs.declared.fault.WordsFault.TheVariants.{Memory};
 
 use crate::{Line, WordsFault};
-use cm_base::{JobId, List, PackageId, ServerName};
+use cm_base::{JobId, List, PackageId, ServerName, Version};
 use std::alloc::Global;
 
 fn ends_options(word: &[u8]) -> bool
@@ -156,6 +156,15 @@ fn read_job(text: &str) -> Option<JobId>
     }
 }
 
+fn read_version(text: &str) -> Option<Version>
+    ensures { result ≡ version_of text.now }
+{
+    match number_within(text, 1, u32::MAX as u64) {
+        Some(number) => Version::new(number as u32),
+        None => None,
+    }
+}
+
 fn package_at(words: &[String], number: u64) -> Result<PackageId, WordsFault>
     requires { 1 ≤ number }
     ensures { result ≡ value_at package_of number (values_of (texts words.now)) }
@@ -186,6 +195,16 @@ fn job_at(words: &[String], number: u64) -> Result<JobId, WordsFault>
 {
     match value(words, number) {
         Some(text) => read_job(text).ok_or(WordsFault::BadValue { value: number }),
+        None => Err(WordsFault::MissingWord { value: number }),
+    }
+}
+
+fn version_at(words: &[String], number: u64) -> Result<Version, WordsFault>
+    requires { 1 ≤ number }
+    ensures { result ≡ value_at version_of number (values_of (texts words.now)) }
+{
+    match value(words, number) {
+        Some(text) => read_version(text).ok_or(WordsFault::BadValue { value: number }),
         None => Err(WordsFault::MissingWord { value: number }),
     }
 }
@@ -238,6 +257,36 @@ fn drop_line(words: &[String]) -> Result<Line, WordsFault>
     Ok(Line::Drop { bay, job })
 }
 
+fn validate_line(words: &[String]) -> Result<Line, WordsFault>
+    ensures { result ≡ read_validate (texts words.now) }
+{
+    expect_values(words, 3)?;
+    let bay = name_at(words, 1)?;
+    let package = package_at(words, 2)?;
+    let version = version_at(words, 3)?;
+    Ok(Line::Validate {
+        bay,
+        package,
+        version,
+    })
+}
+
+fn what_if_line(words: &[String]) -> Result<Line, WordsFault>
+    ensures { result ≡ read_what_if (texts words.now) }
+{
+    expect_values(words, 1)?;
+    let bay = name_at(words, 1)?;
+    Ok(Line::WhatIf { bay })
+}
+
+fn purge_line(words: &[String]) -> Result<Line, WordsFault>
+    ensures { result ≡ read_purge (texts words.now) }
+{
+    expect_values(words, 1)?;
+    let bay = name_at(words, 1)?;
+    Ok(Line::Purge { bay })
+}
+
 /// The line that the words say, or the first reason why they say none.
 pub fn read_words(alloc: Global, words: &[String]) -> Result<Line, WordsFault>
     ensures ok { IfOk result (λ line. read_line (texts words.now) ≡ Ok line) }
@@ -253,6 +302,9 @@ pub fn read_words(alloc: Global, words: &[String]) -> Result<Line, WordsFault>
         "update" => update_line(rest),
         "list" => list_line(rest),
         "drop" => drop_line(rest),
+        "validate" => validate_line(rest),
+        "what-if" => what_if_line(rest),
+        "purge" => purge_line(rest),
         _ => Err(WordsFault::UnknownCommand),
     }
 }

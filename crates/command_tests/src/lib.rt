@@ -22,6 +22,10 @@ mod limits;
 #[cfg(test)]
 mod list;
 #[cfg(test)]
+mod purge;
+#[cfg(test)]
+mod purge_stops;
+#[cfg(test)]
 mod stops;
 #[cfg(test)]
 mod three;
@@ -29,5 +33,7 @@ mod three;
 mod unreadable;
 #[cfg(test)]
 mod update;
+#[cfg(test)]
+mod validate;
 #[cfg(test)]
 mod word_table;

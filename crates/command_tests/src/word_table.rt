@@ -112,6 +112,87 @@ const DROP: [Row; 21] = [
     (&["drop", "site", "7", "--x", "1"], "ExtraWord"),
 ];
 
+const PURGE: [Row; 9] = [
+    (&["purge", "site"], "purge site"),
+    (&["purge", "DP1"], "purge dp1"),
+    (&["purge", "--", "-x"], "purge -x"),
+    (&["purge"], "MissingWord { value: 1 }"),
+    (&["purge", "--"], "MissingWord { value: 1 }"),
+    (&["purge", "a:b"], "BadValue { value: 1 }"),
+    (&["purge", "site", "x"], "ExtraWord"),
+    (&["purge", "-x", "site"], "ExtraWord"),
+    (&["purge", "site", "--all"], "ExtraWord"),
+];
+
+const WHAT_IF: [Row; 8] = [
+    (&["what-if", "site"], "what-if site"),
+    (&["what-if", "DP1"], "what-if dp1"),
+    (&["what-if", "--", "-x"], "what-if -x"),
+    (&["what_if", "site"], "UnknownCommand"),
+    (&["what-if"], "MissingWord { value: 1 }"),
+    (&["what-if", ""], "BadValue { value: 1 }"),
+    (&["what-if", "site", "x"], "ExtraWord"),
+    (&["what-if", "site", "-x"], "ExtraWord"),
+];
+
+const VALIDATE: [Row; 19] = [
+    (
+        &["validate", "site", "PS100001", "1"],
+        "validate site PS100001 1",
+    ),
+    (
+        &["validate", "DP1", "0A1FFFFF", "4294967295"],
+        "validate dp1 0A1FFFFF 4294967295",
+    ),
+    (
+        &["validate", "--", "-x", "PS100001", "10"],
+        "validate -x PS100001 10",
+    ),
+    (&["validate"], "MissingWord { value: 1 }"),
+    (&["validate", "site"], "MissingWord { value: 2 }"),
+    (
+        &["validate", "site", "PS100001"],
+        "MissingWord { value: 3 }",
+    ),
+    (&["validate", "a:b", "x"], "MissingWord { value: 3 }"),
+    (&["validate", "a:b", "x", "0"], "BadValue { value: 1 }"),
+    (
+        &["validate", "site", "ps100001", "0"],
+        "BadValue { value: 2 }",
+    ),
+    (
+        &["validate", "site", "PS100001", ""],
+        "BadValue { value: 3 }",
+    ),
+    (
+        &["validate", "site", "PS100001", "0"],
+        "BadValue { value: 3 }",
+    ),
+    (
+        &["validate", "site", "PS100001", "01"],
+        "BadValue { value: 3 }",
+    ),
+    (
+        &["validate", "site", "PS100001", "+1"],
+        "BadValue { value: 3 }",
+    ),
+    (
+        &["validate", "site", "PS100001", "-"],
+        "BadValue { value: 3 }",
+    ),
+    (
+        &["validate", "site", "PS100001", "1x"],
+        "BadValue { value: 3 }",
+    ),
+    (
+        &["validate", "site", "PS100001", "4294967296"],
+        "BadValue { value: 3 }",
+    ),
+    (&["validate", "site", "PS100001", "1", "2"], "ExtraWord"),
+    (&["validate", "site", "PS100001", "-1"], "ExtraWord"),
+    (&["validate", "-x", "site", "PS100001", "1"], "ExtraWord"),
+];
+
 /// Texts that are no job number.
 const NO_JOBS: [&str; 16] = [
     "",
@@ -169,6 +250,24 @@ fn line_text(alloc: Global, line: &Line) -> Result<Vec<u8>, Fail> {
             let job = job.number().to_string(alloc)?;
             joined(alloc, &[b"drop", bay.as_bytes(), job.as_bytes()])
         }
+        Line::Validate {
+            bay,
+            package,
+            version,
+        } => {
+            let version = version.number().to_string(alloc)?;
+            joined(
+                alloc,
+                &[
+                    b"validate",
+                    bay.as_bytes(),
+                    package.as_bytes(),
+                    version.as_bytes(),
+                ],
+            )
+        }
+        Line::WhatIf { bay } => joined(alloc, &[b"what-if", bay.as_bytes()]),
+        Line::Purge { bay } => joined(alloc, &[b"purge", bay.as_bytes()]),
     }
 }
 
@@ -220,6 +319,21 @@ fn reads_list(rt: HostRuntime) -> Result<(), Fail> {
 #[test]
 fn reads_drop(rt: HostRuntime) -> Result<(), Fail> {
     reads(&rt, rt.alloc(), &DROP)
+}
+
+#[test]
+fn reads_purge(rt: HostRuntime) -> Result<(), Fail> {
+    reads(&rt, rt.alloc(), &PURGE)
+}
+
+#[test]
+fn reads_what_if(rt: HostRuntime) -> Result<(), Fail> {
+    reads(&rt, rt.alloc(), &WHAT_IF)
+}
+
+#[test]
+fn reads_validate(rt: HostRuntime) -> Result<(), Fail> {
+    reads(&rt, rt.alloc(), &VALIDATE)
 }
 
 #[test]

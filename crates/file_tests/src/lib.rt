@@ -4,6 +4,8 @@
 #![tactic(auto)]
 
 #[cfg(test)]
+mod purging;
+#[cfg(test)]
 mod refusals;
 #[cfg(test)]
 mod salvages;

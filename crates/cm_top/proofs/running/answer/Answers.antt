@@ -41,3 +41,24 @@ returns-in-List g c =
     let folder = sourced g.F.Folder.shows g.F.Folder.faults c.args.folder.now in
     subst (λ (line : Line). OnSite (EndsOn d.reads d.may_leave d.moment d.left_since d.faults (step line) folder folder c.list.result) c.args.bays.now.items c.list.new.bays.items)
     (sym c.in-List.is) (c.list.ensures folder folder)
+
+pub returns-in-Validate : goal.returns-in-Validate
+returns-in-Validate g c =
+    let d = g.D.Disk in
+    let folder = sourced g.F.Folder.shows g.F.Folder.faults c.args.folder.now in
+    subst (λ (line : Line). OnSite (EndsOn d.reads d.may_leave d.moment d.left_since d.faults (step line) folder folder c.validate.result) c.args.bays.now.items c.validate.new.bays.items)
+    (sym c.in-Validate.is) (c.validate.ensures folder folder)
+
+pub returns-in-WhatIf : goal.returns-in-WhatIf
+returns-in-WhatIf g c =
+    let d = g.D.Disk in
+    let folder = sourced g.F.Folder.shows g.F.Folder.faults c.args.folder.now in
+    subst (λ (line : Line). OnSite (EndsOn d.reads d.may_leave d.moment d.left_since d.faults (step line) folder folder c.what_if.result) c.args.bays.now.items c.what_if.new.bays.items)
+    (sym c.in-WhatIf.is) (c.what_if.ensures folder folder)
+
+pub returns-in-Purge : goal.returns-in-Purge
+returns-in-Purge g c =
+    let d = g.D.Disk in
+    let folder = sourced g.F.Folder.shows g.F.Folder.faults c.args.folder.now in
+    subst (λ (line : Line). OnSite (EndsOn d.reads d.may_leave d.moment d.left_since d.faults (step line) folder folder c.purge.result) c.args.bays.now.items c.purge.new.bays.items)
+    (sym c.in-Purge.is) (c.purge.ensures folder folder)
