@@ -1,5 +1,5 @@
 //! The name of a boundary, a boundary group or a point group.
-ghost use Rattle.std.specs.Prelude.{◌≡◌};
+ghost use Rattle.std.specs.Prelude.{◌≡◌, true};
 ghost use Rattle.std.specs.List.{list_all};
 ghost use Rattle.cm_base.specs.Names.{is_label, is_printable, text_if};
 
@@ -56,5 +56,12 @@ impl Label {
         ensures { result.now ≡ self.now }
     {
         self.text.as_bytes()
+    }
+
+    /// The text is a label, which is said here alone.
+    pub fn show_form(&self)
+        ensures { is_label self.now ≡ true }
+    {
+        let _ = &self.text;
     }
 }
