@@ -1,6 +1,7 @@
 //! Names, ids and hashes, the reader of fixed fields, and what gives and takes bytes.
 #![tactic(auto)]
 
+mod decimal;
 mod field_reader;
 mod file_hasher;
 mod hash;
@@ -21,6 +22,7 @@ mod source;
 mod text;
 mod version;
 
+pub use decimal::write_decimal;
 pub use field_reader::FieldReader;
 pub use file_hasher::FileHasher;
 pub use hash::Hash;

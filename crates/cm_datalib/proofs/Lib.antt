@@ -1,5 +1,4 @@
 pub mod Alone
-pub mod Decimals
 pub mod Fronts
 pub mod Loaded
 pub mod Names

@@ -1,7 +1,6 @@
 //! Stored manifests: each is stored at the place of its version, loaded, walked and erased.
 #![tactic(auto)]
 
-mod decimal;
 mod erasing;
 mod faults;
 pub mod laws;

@@ -4,9 +4,8 @@ ghost use Rattle.std.specs.Fmt.{decimal};
 ghost use Rattle.cm_disk.specs.Disk.{is_above};
 ghost use Rattle.cm_datalib.specs.Places.{folder, folder_end, manifest_place, version_named};
 
-use crate::decimal::write_decimal;
 use crate::putting::put;
-use cm_base::{PackageId, Place, Version};
+use cm_base::{PackageId, Place, Version, write_decimal};
 use cm_disk::Form;
 
 /// The form of the places of manifests: `DataLib/`, the package, `.` and the version in decimal.

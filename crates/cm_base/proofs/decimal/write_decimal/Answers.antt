@@ -2,8 +2,8 @@ use Rattle.std.proofs.Common.{ℕ, ◌≤◌, ◌<◌, ◌^◌, List, ◌++◌, 
 use Rattle.std.specs.Fmt.{decimal}
 use Rattle.std.proofs.lemmas.Fmt.{length-decimal-le}
 use Rattle.std.proofs.lemmas.List.{drop_all, append-nil}
-use Rattle.cm_datalib.proofs.Decimals.{has_digit, one_digit_less, one_more, last_one}
-use Rattle.cm_datalib.proofs.decimal.write_decimal.Goals as goal
+use Rattle.cm_base.proofs.Decimals.{has_digit, one_digit_less, one_more, last_one}
+use Rattle.cm_base.proofs.decimal.write_decimal.Goals as goal
 
 pub loop-left-init : goal.loop-left-init
 loop-left-init c = record {

@@ -2,8 +2,8 @@
 ghost use Rattle.std.specs.Prelude.{◌≡◌, ◌<◌, drop};
 ghost use Rattle.std.specs.Fmt.{decimal};
 
-/// Writes a number in decimal behind the front of the buffer, and tells where it begins.
-pub(crate) fn write_decimal(number: u32, out: &mut [u8; 10]) -> usize
+/// Writes a number in decimal at the end of the buffer, and tells where it begins.
+pub fn write_decimal(number: u32, out: &mut [u8; 10]) -> usize
     ensures text { drop result out.new ≡ decimal number }
     ensures begins { result < 10 }
 {
