@@ -6,6 +6,8 @@
 #[cfg(test)]
 mod purging;
 #[cfg(test)]
+mod reading;
+#[cfg(test)]
 mod refusals;
 #[cfg(test)]
 mod salvages;
