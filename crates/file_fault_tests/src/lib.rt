@@ -6,4 +6,6 @@
 #[cfg(test)]
 mod faults;
 #[cfg(test)]
+mod reading;
+#[cfg(test)]
 mod unsettled;
