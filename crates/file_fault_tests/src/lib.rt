@@ -6,6 +6,8 @@
 #[cfg(test)]
 mod faults;
 #[cfg(test)]
+mod purging;
+#[cfg(test)]
 mod reading;
 #[cfg(test)]
 mod unsettled;
