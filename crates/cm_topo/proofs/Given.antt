@@ -1,41 +1,51 @@
--- What a fault says of the bytes, and what rows come to.
+-- What bytes say, and what rows come to.
 use Rattle.std.proofs.Common.{◌≡◌, ◌≢◌, ◌<◌, ◌≤◌, ◌∙◌, ℕ, List, [], ◌∷◌, get_or, length, map, Option, Some, None, Result, Ok, Err, refl, ap, sym, subst, arith}
 use Rattle.std.specs.List.{zip}
+use Rattle.std.specs.Str.{IsUtf8, is_utf8}
+use Rattle.std.proofs.lemmas.Bool.{cond-true, cond_both}
 use Rattle.std.proofs.lemmas.List.{get_or-map, length-map}
+use Rattle.std.proofs.lemmas.Str.{IsUtf8-from_is_utf8, is_utf8-from_IsUtf8}
 use Rattle.cm_groups.specs.declared.fallback.Fallback.{Fallback}
 use Rattle.cm_groups.specs.declared.group_text.GroupText.{GroupText}
 use Rattle.cm_groups.specs.declared.group.Group.{Group}
 use Rattle.cm_groups.specs.Groups.{groups_of, held_by}
 use Rattle.cm_net.specs.declared.boundary.Boundary.{Boundary}
 use Rattle.toml.specs.Data.{Members}
+use Rattle.toml.specs.Parse.{parse_document}
 use Rattle.cm_topo.specs.declared.fault.TopoFault.{TopoFault}
+use Rattle.cm_topo.specs.declared.fault.TopoFault.TheVariants as fault
+use Rattle.cm_topo.specs.declared.fault.TopoFault.TheVariants.{NotToml}
 use Rattle.cm_topo.specs.declared.known.Known.{Known}
 use Rattle.cm_topo.specs.declared.trouble.Placed.{Placed}
 use Rattle.cm_topo.specs.declared.topology.Topology.{Topology}
 use Rattle.cm_topo.specs.declared.topology_text.TopologyText.{TopologyText}
 use Rattle.cm_topo.specs.declared.trouble.Trouble.{Trouble}
 use Rattle.cm_topo.specs.declared.trouble.Trouble.TheVariants.{Shape, Broken, Memory}
-use Rattle.cm_topo.specs.Outcomes.{Comes, IsDocument, Says, both_passes, checked, topology_of, unless_faulty}
+use Rattle.cm_topo.specs.Outcomes.{both_passes, checked, document_of, outcome_or, topology_in, topology_of, unless_faulty}
 use Rattle.cm_topo.specs.Rows.{with_relations}
 use Rattle.cm_topo.specs.SecondPass.{known_of, refers, second_pass}
 use Rattle.cm_topo.specs.Troubles.{fault_from, fault_of, first, result_map_err}
 
-says_trouble : (bytes : List ℕ) (trouble : Trouble) (part entry : ℕ) → (trouble ≢ Memory → Comes bytes (Err (fault_from trouble part entry))) → Says bytes (Err (fault_from trouble part entry))
-says_trouble bytes Shape part entry come = come (λ e. cc)
-says_trouble bytes (Broken rule) part entry come = come (λ e. cc)
-says_trouble bytes Memory part entry come = tt
+-- the document that a text is
+document_is : (bytes : List ℕ) (d : Members) → IsUtf8 bytes → parse_document bytes ≡ Some d → document_of bytes ≡ Some d
+document_is bytes d text parsed = cond-true (is_utf8 bytes) (parse_document bytes) None (is_utf8-from_IsUtf8 bytes text) ∙ parsed
 
-comes_of : (bytes : List ℕ) (d : Members) (answer : Result Topology Placed) → IsDocument bytes d → both_passes d ≡ answer → Comes bytes (result_map_err fault_of answer)
-comes_of bytes d answer is come = record { document = d; is_document = is; comes = ap (λ (r : Result Topology Placed). result_map_err fault_of r) come }
+-- no document, where none is parsed from a text
+pub no_topology : (bytes : List ℕ) → (IsUtf8 bytes → parse_document bytes ≡ None) → topology_in bytes ≡ Err NotToml
+no_topology bytes none =
+    let no_document : document_of bytes ≡ None = cond_both (is_utf8 bytes) (parse_document bytes) None (λ found. found ≡ None) (λ text. none (IsUtf8-from_is_utf8 bytes text)) (λ _. refl) in
+    ap outcome_or no_document
+
+-- what both passes make of the document
+pub topology_is_said : (bytes : List ℕ) (d : Members) (answer : Result Topology Placed) → IsUtf8 bytes → parse_document bytes ≡ Some d → both_passes d ≡ answer → topology_in bytes ≡ result_map_err fault_of answer
+topology_is_said bytes d answer text parsed come = ap outcome_or (document_is bytes d text parsed) ∙ ap (λ (r : Result Topology Placed). result_map_err fault_of r) come
 
 -- the fault of a place, unless there was no memory
-pub says_fault : (bytes : List ℕ) (d : Members) (placed : Placed) (fault : TopoFault) → IsDocument bytes d → (placed.trouble ≢ Memory → both_passes d ≡ Err placed) → fault ≡ fault_of placed → Says bytes (Err fault)
-says_fault bytes d placed fault is come same =
-    let P : TopoFault → Type 0 = λ f. Says bytes (Err f) in
-    subst P (sym same) (says_trouble bytes placed.trouble placed.part placed.entry (λ other. comes_of bytes d (Err placed) is (come other)))
+fault_is_said : (trouble : Trouble) (part entry : ℕ) → fault_from trouble part entry ≢ fault.Memory → trouble ≢ Memory
+fault_is_said trouble part entry other e = other (ap (λ (t : Trouble). fault_from t part entry) e)
 
-pub says_topology : (bytes : List ℕ) (d : Members) (topology : Topology) → IsDocument bytes d → both_passes d ≡ Ok topology → Says bytes (Ok topology)
-says_topology bytes d topology is come = comes_of bytes d (Ok topology) is come
+pub placed_is_said : (placed : Placed) → fault_of placed ≢ fault.Memory → placed.trouble ≢ Memory
+placed_is_said placed other = fault_is_said placed.trouble placed.part placed.entry other
 
 -- the first of the faults, or none
 faulty : (faults : List Placed) (topology : Topology) (fault : Placed) → first faults ≡ Some fault → unless_faulty faults topology ≡ Err fault

@@ -4,4 +4,5 @@ pub mod Outcomes
 pub mod Rows
 pub mod Rules
 pub mod SecondPass
+pub mod Topologies
 pub mod Troubles

@@ -1,20 +1,17 @@
 -- What a text says: a topology, or its first fault.
-use Rattle.std.specs.Prelude.{◌≡◌, ℕ, ⊤, IsUtf8, List, [], ◌∷◌, length, Some, Result, Ok, Err}
+use Rattle.std.specs.Prelude.{ℕ, List, [], ◌∷◌, length, cond, Option, None, Some, Result, Ok, Err}
+use Rattle.std.specs.Str.{is_utf8}
 use Rattle.cm_groups.specs.Groups.{groups_of}
 use Rattle.toml.specs.Data.{Members}
 use Rattle.toml.specs.Parse.{parse_document}
 use Rattle.cm_topo.specs.declared.fault.TopoFault.{TopoFault}
-use Rattle.cm_topo.specs.declared.fault.TopoFault.TheVariants.{NotToml, WrongShape, Rule, Memory}
+use Rattle.cm_topo.specs.declared.fault.TopoFault.TheVariants.{NotToml}
 use Rattle.cm_topo.specs.declared.trouble.Placed.{Placed}
 use Rattle.cm_topo.specs.declared.topology.Topology.{Topology}
 use Rattle.cm_topo.specs.declared.topology_text.TopologyText.{TopologyText}
 use Rattle.cm_topo.specs.Rows.{text_read}
 use Rattle.cm_topo.specs.SecondPass.{second_pass}
 use Rattle.cm_topo.specs.Troubles.{fault_of, result_and_then, result_map_err}
-
--- the document that a text is, by TOML
-abbrev pub IsDocument : List ℕ → Members → Type 0
-IsDocument bytes d = IsUtf8 bytes × (parse_document bytes ≡ Some d)
 
 -- the topology of rows without a fault
 abbrev pub topology_of : TopologyText → Topology
@@ -44,16 +41,14 @@ both_passes d = result_and_then (text_read d) checked
 abbrev pub outcome : Members → Result Topology TopoFault
 outcome d = result_map_err fault_of (both_passes d)
 
--- the bytes are a document, and this is its outcome
-pub record Comes (bytes : List ℕ) (answer : Result Topology TopoFault) : Type 0 where
-  pub document : Members
-  pub is_document : IsDocument bytes document
-  pub comes : outcome document ≡ answer
+-- the document that a text is, where it is text and TOML
+abbrev pub document_of : List ℕ → Option Members
+document_of text = cond (is_utf8 text) (parse_document text) None
 
--- what an answer says of the bytes
-abbrev pub Says : List ℕ → Result Topology TopoFault → Type 0
-Says bytes (Ok topology) = Comes bytes (Ok topology)
-Says bytes (Err NotToml) = (d : Members) → IsDocument bytes d → ⊥
-Says bytes (Err (WrongShape part entry)) = Comes bytes (Err (WrongShape part entry))
-Says bytes (Err (Rule rule part entry)) = Comes bytes (Err (Rule rule part entry))
-Says bytes (Err Memory) = ⊤
+abbrev pub outcome_or : Option Members → Result Topology TopoFault
+outcome_or None = Err NotToml
+outcome_or (Some document) = outcome document
+
+-- the topology that a text says, or its first fault
+abbrev pub topology_in : List ℕ → Result Topology TopoFault
+topology_in text = outcome_or (document_of text)

@@ -21,14 +21,24 @@ use Rattle.cm_topo.specs.declared.trouble.Trouble.{Trouble}
 use Rattle.cm_topo.specs.Rules.{no_such_boundary, no_such_group, no_such_point, pull_from_itself, same_name, same_relation, self_relation}
 use Rattle.cm_topo.specs.Troubles.{broken_if, broken_unless, each_entry, fault_at, numbered}
 
+-- the names of points, of point groups and of peers, in order
+abbrev pub names_of_points : List Point → List (List ℕ)
+names_of_points points = map (λ point. point.name) points
+
+abbrev pub names_of_point_groups : List PointGroup → List (List ℕ)
+names_of_point_groups groups = map (λ group. group.name) groups
+
+abbrev pub names_of_peers : List Peer → List (List ℕ)
+names_of_peers peers = map (λ peer. peer.name) peers
+
 -- the names that there are; the default group has number 0 among the groups
 abbrev pub known_of : TopologyText → Known
 known_of text = record {
   boundaries = names_of_rows text.sites.boundaries;
   groups = group_names text.sites.code text.sites.groups;
-  points = map (λ point. point.name) text.servers.points;
-  point_groups = map (λ group. group.name) text.servers.point_groups;
-  peers = map (λ peer. peer.name) text.servers.peers;
+  points = names_of_points text.servers.points;
+  point_groups = names_of_point_groups text.servers.point_groups;
+  peers = names_of_peers text.servers.peers;
 }
 
 -- the name stands in its part before that place

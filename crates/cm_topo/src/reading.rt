@@ -4,7 +4,7 @@ ghost use Rattle.std.specs.List.{zip};
 ghost use Rattle.cm_groups.specs.Groups.{held_by};
 ghost use Rattle.cm_net.specs.Boundaries.{IsSound};
 ghost use Rattle.toml.specs.View.{table_view};
-ghost use Rattle.cm_topo.specs.Outcomes.{Says, both_passes, checked, topology_of};
+ghost use Rattle.cm_topo.specs.Outcomes.{both_passes, checked, topology_in, topology_of};
 ghost use Rattle.cm_topo.specs.Rows.{alone, groups_read, servers_read, with_relations};
 ghost use Rattle.cm_topo.specs.SecondPass.{AreFewGroups, AreFewServers, known_of};
 ghost use Rattle.cm_topo.specs.declared.trouble.Trouble.TheVariants.{Memory};
@@ -160,7 +160,7 @@ fn checked(alloc: Global, text: TopologyText) -> Result<Topology, Placed>
 }
 
 /// The topology of a document, or its first fault. The memory of the document is there again for the topology.
-fn topology_in(alloc: Global, table: Table) -> Result<Topology, Placed>
+fn both_passes(alloc: Global, table: Table) -> Result<Topology, Placed>
     ensures said { IfOk result (λ topology. both_passes (table_view table) ≡ Ok topology) }
     ensures wrong { IfErr result (λ placed. placed.trouble ≢ Memory → both_passes (table_view table) ≡ Err placed) }
 {
@@ -174,7 +174,8 @@ fn topology_in(alloc: Global, table: Table) -> Result<Topology, Placed>
 /// memory; else the first pass goes through the parts in order, each entry by itself: its limit, then its keys; and the second one
 /// looks at the names that refer to others, in the same order. `Memory` may be answered at any time.
 pub fn read_topology(alloc: Global, bytes: &[u8]) -> Result<Topology, TopoFault>
-    ensures { Says bytes.now result }
+    ensures ok { IfOk result (λ topology. topology_in bytes.now ≡ Ok topology) }
+    ensures fault { IfErr result (λ fault. fault ≢ TopoFault.Memory → topology_in bytes.now ≡ Err fault) }
 {
     let table = match toml::table_from_slice(alloc, bytes) {
         Ok(table) => table,
@@ -185,7 +186,7 @@ pub fn read_topology(alloc: Global, bytes: &[u8]) -> Result<Topology, TopoFault>
             return Err(TopoFault::NotToml);
         }
     };
-    match topology_in(alloc, table) {
+    match both_passes(alloc, table) {
         Ok(topology) => Ok(topology),
         Err(placed) => Err(placed.fault()),
     }
