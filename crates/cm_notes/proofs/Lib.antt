@@ -1,0 +1,4 @@
+pub mod Fields
+pub mod Folded
+pub mod Pieces
+pub mod Records
