@@ -1,4 +1,4 @@
-//! Disks, logs, stored files and stored manifests by values from outside, and what a crash leaves.
+//! Disks, logs, stored files, stored manifests and stored texts by values from outside, and what a crash leaves.
 //!
 //! The tests of a crate stand in a crate of their own, since a crate with tests is proved twice.
 #![tactic(auto)]
@@ -11,3 +11,5 @@ mod files;
 mod logs;
 #[cfg(test)]
 mod manifests;
+#[cfg(test)]
+mod texts;
