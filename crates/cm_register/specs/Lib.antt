@@ -1,0 +1,9 @@
+pub mod AfterNote
+pub mod Kept
+pub mod Laws
+pub mod Lists
+pub mod Look
+pub mod Opens
+pub mod Records
+pub mod Texts
+pub mod Worked
