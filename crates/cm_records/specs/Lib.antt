@@ -1,0 +1,6 @@
+pub mod Calls
+pub mod Kept
+pub mod Laws
+pub mod Opening
+pub mod Placing
+pub mod Seen
