@@ -14,6 +14,8 @@ EMPTY_LOGS = {
     "PkgLib/log.1": bytes.fromhex("00 01 0000000000000000 00"),
     "PkgLib/ready": b"",
 }
+# New records of a site: the same logs in a shelf of their own.
+EMPTY_RECORDS = {place.replace("PkgLib", "Site"): content for place, content in EMPTY_LOGS.items()}
 THREE = {"a.txt": b"abc", "bin/empty": b"", "readme": b"hello"}
 
 
@@ -21,9 +23,9 @@ def is_built():
     return PROGRAM.is_file()
 
 
-def run(base, folder, *words):
-    """The status and the text of one run. Nothing is ever printed on standard error."""
-    done = subprocess.run([str(PROGRAM), str(base), str(folder), *words], capture_output=True, timeout=60)
+def run(base, folder, *words, given=b""):
+    """The status and the text of one run with this input. Nothing is ever printed on standard error."""
+    done = subprocess.run([str(PROGRAM), str(base), str(folder), *words], input=given, capture_output=True, timeout=60)
     if done.stderr:
         sys.exit(f"{words}: standard error has {done.stderr!r}")
     return done.returncode, done.stdout.decode()

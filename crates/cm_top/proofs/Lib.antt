@@ -1,20 +1,7 @@
-pub mod CheckEnds
-pub mod Closing
-pub mod Copies
-pub mod DropEnds
-pub mod InitLemmas
-pub mod JustOpened
+mod Lines
 pub mod Meets
 mod NumberLemmas
-pub mod OneBay
-pub mod OpenedEnds
-pub mod PurgeEnds
-pub mod ReadEnds
 mod Scan
-pub mod SomeFiles
 mod Sources
 pub mod Statuses
-pub mod TakeEnds
 pub mod Unknown
-pub mod Unopened
-pub mod Untouched

@@ -1,36 +1,46 @@
--- The reply `source` comes only where a reading of the folder failed.
-use Rattle.std.proofs.Common.{◌≡◌, ◌⊎◌, ◌==◌, ◌+◌, ℕ, Bool, true, false, if◌then◌else◌, not, List, [], ◌∷◌, ◌++◌, length, map, Option, None, Some, Result, Ok, Err, inl, inr, refl}
+-- The reply `source` comes only where a reading of the folder, or the input, failed.
+use Rattle.std.proofs.Common.{◌≡◌, ◌⊎◌, ◌==◌, ◌+◌, ℕ, Bool, true, false, if◌then◌else◌, not, List, [], ◌∷◌, ◌++◌, length, map, Option, None, Some, Result, Ok, Err, inl, inr, refl, subst}
 use Rattle.std.specs.Prelude.{is_some, find, nat_lt, option_map}
 use Rattle.std.specs.Option.{option_and_then}
 use Rattle.std.specs.Str.{bytes_eq}
 use Rattle.cm_base.specs.Causes.{Rose}
 use Rattle.cm_base.specs.declared.hash.Hash.{Hash}
 use Rattle.cm_pkglib.specs.Rows.{last_of, is_of}
-use Rattle.cm_intake.specs.Readings.{AreReadings, change_of, first_with, is_changed, least_hash, first_change}
+use Rattle.cm_intake.specs.Readings.{Readings, AreReadings, change_of, first_with, is_changed, least_hash, first_change}
 use Rattle.cm_intake.specs.Intake.{intake, first_read, scanned, within_limits, read_again, finished_or, of_scan, of_limit}
 use Rattle.cm_intake.specs.declared.taken.Taken.{Taken}
 use Rattle.cm_intake.specs.declared.fault.IntakeFault.{IntakeFault}
 use Rattle.cm_intake.specs.declared.fault.IntakeFault.TheVariants.{Folder, TooManyFiles as ManyFiles, BadPath as PathOff, SamePath as PathTwice, FileTooLong as LongFile, TooManyVersions as ManyVersions, TooManyEntries as ManyEntries, TooManyJobs as ManyJobs, Spent as NoneLeft, Changed as OtherBytes, Disk as DiskFails, Memory as NoMemory}
 use Rattle.cm_state.specs.Faults.{limit_fault}
-use Rattle.cm_state.specs.Look.{Library, Missing, Opened, Unreadable}
 use Rattle.cm_state.specs.Changes.{Dropped as JobDropped}
-use Rattle.cm_state.specs.State.{Held, State, held_by_job, version_rows, job_rows}
+use Rattle.cm_register.specs.Records.{Records}
+use Rattle.cm_state.specs.State.{Held, State, held_by_job}
 use Rattle.cm_state.specs.declared.fault.LibFault.{LibFault}
 use Rattle.cm_state.specs.declared.fault.LibFault.TheVariants.{NoJob}
+use Rattle.cm_topo.specs.Outcomes.{topology_in}
+use Rattle.cm_topo.specs.declared.fault.TopoFault.{TopoFault}
+use Rattle.cm_topo.specs.declared.topology.Topology.{Topology}
 use Rattle.cm_tree.specs.Paths.{is_file_path, has_path, folded_path}
 use Rattle.cm_tree.specs.Scans.{path_fault, first_of, length_fault, file_fault, files_fault, first_fault}
 use Rattle.cm_tree.specs.Trees.{File, manifest_of}
 use Rattle.cm_tree.specs.declared.entry.Entry.{Entry}
 use Rattle.cm_tree.specs.declared.scan_fault.ScanFault.{ScanFault}
 use Rattle.cm_tree.specs.declared.scan_fault.ScanFault.TheVariants.{Folder as FolderFails, TooManyFiles, BadPath, SamePath, FileTooLong, Memory as ScanMemory}
-use Rattle.cm_top.specs.Bays.{site}
-use Rattle.cm_top.specs.Machine.{Given, Step, no_bay, refused_or_made, reply_to, taken_in, add_behind, update_behind, drop_in, listed, validated, validate_in, tells_loose, purges, commits, told}
-use Rattle.cm_top.specs.Runs.{Sourced, step}
+use Rattle.cm_site.specs.Contents.{site}
+use Rattle.cm_site.specs.Machine.{Given, Step, init_or, no_bay, opened, opened_or, given_for, with_state, with_part, on_library, unless, said_step, input_step, topology_in_records}
+use Rattle.cm_site.specs.OneLibrary as one
+use Rattle.cm_site.specs.OneLibrary.{reply_to}
+use Rattle.cm_site.specs.Opening.{Closed, NoLibrary, NotReadable, NoBayFor, closed_in}
+use Rattle.cm_site.specs.Refusals.{topology_refusals}
+use Rattle.cm_site.specs.Runs.{Outside, IsInput}
+use Rattle.cm_site.specs.Worlds.{World, Part, Kept, part_at, state_in, records_of}
+use Rattle.cm_site.specs.declared.reply.Refusal.{Refusal}
+use Rattle.cm_site.specs.declared.reply.Refusal.TheVariants.{NoJob as NoSuchJob, VersionsSpent}
+use Rattle.cm_site.specs.declared.reply.Reply.{Reply}
+use Rattle.cm_site.specs.declared.reply.Reply.TheVariants.{Dropped, Refused, Source}
+use Rattle.cm_top.specs.Runs.{step}
 use Rattle.cm_top.specs.declared.line.Line.{Line}
-use Rattle.cm_top.specs.declared.line.Line.TheVariants.{Init, Add, Update, Drop, List as ListBay, Validate, WhatIf, Purge}
-use Rattle.cm_top.specs.declared.reply.Reply.{Reply}
-use Rattle.cm_top.specs.declared.reply.Reply.TheVariants.{Dropped, Versions, Refused, Source}
-use Rattle.cm_top.specs.declared.reply.Refusal.TheVariants.{NoJob as NoSuchJob, NoBay, VersionsSpent}
+use Rattle.cm_top.specs.declared.line.Line.TheVariants.{Init, Add, Update, Drop, List as ListBay, Validate, WhatIf, Purge, Topology as ReplaceTopology}
 
 -- the files of a reading have no fault of the folder
 
@@ -124,90 +134,106 @@ module _ (id : List ℕ) (version end : ℕ) (state : State) where
   reply_failed (Err DiskFails) e = cc
   reply_failed (Err NoMemory) e = cc
 
-abbrev Failed : Given → Type 0
-Failed given = (given.readings.first ≡ None) ⊎ (given.readings.second ≡ None)
+abbrev Failed : Readings → Type 0
+Failed readings = (readings.first ≡ None) ⊎ (readings.second ≡ None)
 
-taken_failed : (id : List ℕ) (version : ℕ) (given : Given) (state : State) → Source ≡ (taken_in id version given state).reply → Failed given
+-- a step of one library
+
+taken_failed : (id : List ℕ) (version : ℕ) (given : one.Given) (state : State) → Source ≡ (one.taken_in id version given state).reply → Failed given.readings
 taken_failed id version given state e =
     failed_in id version given.gate state given.readings.second given.readings.first
     (reply_failed id version given.gate state (intake id version given.gate given.readings state).answer e)
 
-add_failed : (id : List ℕ) (given : Given) (state : State) (last : Option ℕ) → Source ≡ (add_behind id given state last).reply → Failed given
+add_failed : (id : List ℕ) (given : one.Given) (state : State) (last : Option ℕ) → Source ≡ (one.add_behind id given state last).reply → Failed given.readings
 add_failed id given state None e = taken_failed id 1 given state e
 add_failed id given state (Some last) e = cc
 
-update_failed : (id : List ℕ) (given : Given) (state : State) (last : Option ℕ) → Source ≡ (update_behind id given state last).reply → Failed given
+update_failed : (id : List ℕ) (given : one.Given) (state : State) (last : Option ℕ) → Source ≡ (one.update_behind id given state last).reply → Failed given.readings
 update_failed id given state None e = cc
 update_failed id given state (Some last) e = by (last == 4294967295) e
   where
-    by : (b : Bool) → Source ≡ (if b then told (Refused VersionsSpent) else taken_in id (last + 1) given state).reply → Failed given
+    by : (b : Bool) → Source ≡ (if b then one.told (Refused VersionsSpent) else one.taken_in id (last + 1) given state).reply → Failed given.readings
     by true e = cc
     by false e = taken_failed id (last + 1) given state e
 
-init_not : (name : Option (List ℕ)) (library : Library) → Source ≡ (refused_or_made name library).reply → ⊥
-init_not None Missing e = cc
-init_not None (Opened state) e = cc
-init_not None (Unreadable place at) e = cc
-init_not (Some name) library e = cc
+drop_not : (job : ℕ) (state : State) → Source ≡ (one.drop job state).reply → ⊥
+drop_not job state e = by (is_some (held_by_job job state.jobs)) e
+  where
+    by : (b : Bool) → Source ≡ (if b then one.commits Dropped (JobDropped job ∷ []) else one.told (Refused NoSuchJob)).reply → ⊥
+    by true e = cc
+    by false e = cc
 
-either_not : (b : Bool) (x y : Step) → (Source ≡ x.reply → ⊥) → (Source ≡ y.reply → ⊥) → Source ≡ (if b then x else y).reply → ⊥
-either_not true x y a b e = a e
-either_not false x y a b e = b e
-
-listed_not : (b : Bool) (x y : Reply) → (Source ≡ x → ⊥) → (Source ≡ y → ⊥) → Source ≡ (if b then x else y) → ⊥
-listed_not true x y a b e = a e
-listed_not false x y a b e = b e
-
-drop_not : (bay : List ℕ) (job : ℕ) (state : State) → Source ≡ (if bytes_eq bay site then drop_in job state else told (Refused (NoBay bay))).reply → ⊥
-drop_not bay job state e =
-    either_not (bytes_eq bay site) (drop_in job state) (told (Refused (NoBay bay)))
-    (λ d. either_not (is_some (held_by_job job state.jobs)) (commits Dropped (JobDropped job ∷ [])) (told (Refused NoSuchJob)) (λ f. cc) (λ f. cc) d)
-    (λ d. cc) e
-
-list_not : (bay : List ℕ) (state : State) → Source ≡ listed bay state → ⊥
-list_not bay state e = listed_not (bytes_eq bay site) (Versions (version_rows state) (job_rows state)) (Refused (NoBay bay)) (λ d. cc) (λ d. cc) e
-
-validated_not : (given : Given) (found : Option Held) → Source ≡ (validated given found).reply → ⊥
+validated_not : (given : one.Given) (found : Option Held) → Source ≡ (one.validated given found).reply → ⊥
 validated_not given None e = cc
 validated_not given (Some held) e = cc
 
-validate_not : (bay id : List ℕ) (version : ℕ) (given : Given) (state : State) → Source ≡ (if bytes_eq bay site then validate_in id version given state else told (Refused (NoBay bay))).reply → ⊥
-validate_not bay id version given state e =
-    either_not (bytes_eq bay site) (validate_in id version given state) (told (Refused (NoBay bay)))
-    (λ d. validated_not given (find (λ (held : Held). is_of id version held.row) state.versions) d) (λ d. cc) e
+-- a step of a site
 
-what_if_not : (bay : List ℕ) (given : Given) → Source ≡ (if bytes_eq bay site then tells_loose given else told (Refused (NoBay bay))).reply → ⊥
-what_if_not bay given e = either_not (bytes_eq bay site) (tells_loose given) (told (Refused (NoBay bay))) (λ d. cc) (λ d. cc) e
+opened_only : (needs : World → Step) (world : World) → Source ≡ (opened needs world).reply → Source ≡ (needs world).reply
+opened_only needs world e = by (closed_in world) e
+  where
+    by : (closed : Option Closed) → Source ≡ (opened_or closed (needs world)).reply → Source ≡ (needs world).reply
+    by None e = e
+    by (Some (NoLibrary bay)) e = cc
+    by (Some (NotReadable bay place at)) e = cc
+    by (Some (NoBayFor name)) e = cc
 
-purge_not : (bay : List ℕ) (given : Given) → Source ≡ (if bytes_eq bay site then purges given else told (Refused (NoBay bay))).reply → ⊥
-purge_not bay given e = either_not (bytes_eq bay site) (purges given) (told (Refused (NoBay bay))) (λ d. cc) (λ d. cc) e
+-- of a library's step it is the step's own reply
+of_library : (P : Type 0) (bay : List ℕ) (does : one.Given → State → one.Step) (given : Given) (world : World)
+    → ((part : Part) (state : State) → Source ≡ (does (given_for given part) state).reply → P) → Source ≡ (on_library bay does given world).reply → P
+of_library P bay does given world so e =
+    in_part (part_at bay world) (opened_only (λ (w : World). with_part bay does given (part_at bay w)) world e)
+  where
+    in_state : (part : Part) (state : Option State) → Source ≡ (with_state bay (does (given_for given part)) state).reply → P
+    in_state part None e = cc
+    in_state part (Some state) e = so part state e
 
--- a step replies so only where a reading failed
-pub step_failed : (line : Line) (given : Given) (library : Library) → Source ≡ (step line given library).reply → Failed given
-step_failed (Init names) given library e = absurd (init_not (no_bay names) library e)
-step_failed (Add id) given Missing e = cc
-step_failed (Add id) given (Opened state) e = add_failed id given state (last_of id state.lasts) e
-step_failed (Add id) given (Unreadable place at) e = cc
-step_failed (Update id) given Missing e = cc
-step_failed (Update id) given (Opened state) e = update_failed id given state (last_of id state.lasts) e
-step_failed (Update id) given (Unreadable place at) e = cc
-step_failed (Drop bay job) given Missing e = cc
-step_failed (Drop bay job) given (Opened state) e = absurd (drop_not bay job state e)
-step_failed (Drop bay job) given (Unreadable place at) e = cc
-step_failed (ListBay bay) given Missing e = cc
-step_failed (ListBay bay) given (Opened state) e = absurd (list_not bay state e)
-step_failed (ListBay bay) given (Unreadable place at) e = cc
-step_failed (Validate bay id version) given Missing e = cc
-step_failed (Validate bay id version) given (Opened state) e = absurd (validate_not bay id version given state e)
-step_failed (Validate bay id version) given (Unreadable place at) e = cc
-step_failed (WhatIf bay) given Missing e = cc
-step_failed (WhatIf bay) given (Opened state) e = absurd (what_if_not bay given e)
-step_failed (WhatIf bay) given (Unreadable place at) e = cc
-step_failed (Purge bay) given Missing e = cc
-step_failed (Purge bay) given (Opened state) e = absurd (purge_not bay given e)
-step_failed (Purge bay) given (Unreadable place at) e = cc
+    in_part : (part : Option Part) → Source ≡ (with_part bay does given part).reply → P
+    in_part None e = cc
+    in_part (Some part) e = in_state part (state_in part.content) e
 
--- then the folder's count rose
-pub folder_rose : (from to : Sourced) (given : Given) → AreReadings from.shown from.faults to.faults given.readings → Failed given → Rose from.faults to.faults
-folder_rose from to given are (inl first) = are.first_failed first
-folder_rose from to given are (inr second) = are.second_failed second
+init_not : (names : List (List ℕ)) (world : World) (name : Option (List ℕ)) → Source ≡ (init_or name names world).reply → ⊥
+init_not names world None e = cc
+init_not names world (Some name) e = cc
+
+said_not : (text : List ℕ) (said : Result Topology TopoFault) (minute : ℕ) (records : Records) (refusal : Option Refusal) → Source ≡ (unless refusal (said_step text said minute records)).reply → ⊥
+said_not text said minute records (Some refusal) e = cc
+said_not text (Ok topology) minute records None e = cc
+said_not text (Err fault) minute records None e = cc
+
+input_none : (text : Option (List ℕ)) (minute : ℕ) (kept : Kept) (world : World) → Source ≡ (input_step text minute kept world).reply → text ≡ None
+input_none None minute kept world e = refl
+input_none (Some text) minute kept world e =
+    absurd (said_not text (topology_in text) minute kept.records (topology_refusals (length text) (topology_in text) kept world) e)
+
+topology_none : (given : Given) (kept : Option Kept) (world : World) → Source ≡ (topology_in_records given kept world).reply → given.text ≡ None
+topology_none given None world e = cc
+topology_none given (Some kept) world e = input_none given.text given.minute kept world e
+
+-- a step replies so only where a reading of the folder or the input failed
+pub step_failed : (line : Line) (given : Given) (world : World) → Source ≡ (step line given world).reply → Failed given.readings ⊎ (given.text ≡ None)
+step_failed (Init names) given world e = absurd (init_not names world (no_bay names world) e)
+step_failed (Add id) given world e =
+    of_library (Failed given.readings ⊎ (given.text ≡ None)) site (one.add id) given world (λ part state is. inl (add_failed id (given_for given part) state (last_of id state.lasts) is)) e
+step_failed (Update id) given world e =
+    of_library (Failed given.readings ⊎ (given.text ≡ None)) site (one.update id) given world (λ part state is. inl (update_failed id (given_for given part) state (last_of id state.lasts) is)) e
+step_failed (Drop bay job) given world e =
+    of_library (Failed given.readings ⊎ (given.text ≡ None)) bay (λ g. one.drop job) given world (λ part state is. absurd (drop_not job state is)) e
+step_failed (ListBay bay) given world e =
+    of_library (Failed given.readings ⊎ (given.text ≡ None)) bay (λ g. one.list) given world (λ part state is. cc) e
+step_failed (Validate bay id version) given world e =
+    of_library (Failed given.readings ⊎ (given.text ≡ None)) bay (one.validate id version) given world
+    (λ part state is. absurd (validated_not (given_for given part) (find (λ (held : Held). is_of id version held.row) state.versions) is)) e
+step_failed (WhatIf bay) given world e =
+    of_library (Failed given.readings ⊎ (given.text ≡ None)) bay (λ g state. one.what_if g) given world (λ part state is. cc) e
+step_failed (Purge bay) given world e =
+    of_library (Failed given.readings ⊎ (given.text ≡ None)) bay (λ g state. one.purge g) given world (λ part state is. cc) e
+step_failed ReplaceTopology given world e =
+    inr (topology_none given (records_of world) world (opened_only (λ (w : World). topology_in_records given (records_of w) w) world e))
+
+-- then the count of the one that failed rose
+pub rose : (from to : Outside) (given : Given) → AreReadings from.folder.shown from.folder.faults to.folder.faults given.readings → IsInput from.input to.input given.text
+    → Failed given.readings ⊎ (given.text ≡ None) → Rose from.folder.faults to.folder.faults ⊎ Rose from.input.faults to.input.faults
+rose from to given readings text (inl (inl first)) = inl (readings.first_failed first)
+rose from to given readings text (inl (inr second)) = inl (readings.second_failed second)
+rose from to given readings text (inr none) = inr (subst (IsInput from.input to.input) none text)

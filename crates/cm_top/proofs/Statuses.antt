@@ -2,19 +2,19 @@
 use Rattle.std.proofs.Common.{◌≡◌, ◌≢◌, ◌⊎◌, ℕ, List, [], ◌∷◌, Option, Result, Ok, Err, inl, inr, refl, subst, arith}
 use Rattle.cm_base.specs.Causes.{Rose}
 use Rattle.cm_disk.specs.Disk.{File, Files}
-use Rattle.cm_top.specs.Bays.{OnSite}
+use Rattle.cm_site.specs.Runs.{Outside, RoseAt, Steps, EndsOn}
+use Rattle.cm_site.specs.declared.bay.Bay.{Bay}
+use Rattle.cm_site.specs.declared.reply.Reply.{Reply}
+use Rattle.cm_site.specs.declared.reply.Reply.TheVariants.{Made, Changed, Source, Disk, Memory}
 use Rattle.cm_top.specs.Causes.{HasCauses, TellsChange}
 use Rattle.cm_top.specs.Texts.{usage_status, reply_status}
-use Rattle.cm_top.specs.Runs.{Sunk, Sourced, Prints, Steps, EndsOn, RunMeets, step}
+use Rattle.cm_top.specs.Runs.{Sunk, Prints, RunMeets, step}
 use Rattle.cm_top.specs.Words.{read_line}
-use Rattle.cm_top.specs.declared.bay.Bay.{Bay}
 use Rattle.cm_top.specs.declared.fault.WordsFault.{WordsFault}
 use Rattle.cm_top.specs.declared.fault.WordsFault.TheVariants.{NoCommand, UnknownCommand, BadValue, MissingWord, ExtraWord, Memory as NoMemory}
-use Rattle.cm_top.specs.declared.reply.Reply.{Reply}
-use Rattle.cm_top.specs.declared.reply.Reply.TheVariants.{Made, Changed, Source, Disk, Memory}
-use Rattle.cm_top.specs.declared.reply.Ended.TheVariants.{Usage, Replied}
+use Rattle.cm_top.specs.declared.ended.Ended.TheVariants.{Usage, Replied}
 use Rattle.cm_top.specs.declared.line.Line.{Line}
-use Rattle.cm_top.proofs.Sources.{step_failed, folder_rose}
+use Rattle.cm_top.proofs.Sources.{step_failed, rose}
 
 -- the status of a usage line is 2, or 6 for want of memory
 usage_statuses : (fault : WordsFault) → (usage_status fault ≡ 2) ⊎ (usage_status fault ≡ 6)
@@ -33,41 +33,28 @@ not_reply_4 : (reply : Reply) → 4 ≡ reply_status reply → ⊥
 not_reply_4 (Made count) e = omega arith
 not_reply_4 reply e = omega arith
 
--- what follows of the site's disk alone
-on_site : {D : Type 0} (P : D → D → Type 0) (Q : Type 0) → ((a b : D) → P a b → Q) → (old new : List (Bay D)) → OnSite P old new → Q
-on_site P Q then [] [] on = absurd on
-on_site P Q then [] (bay ∷ new) on = absurd on
-on_site P Q then (old ∷ []) [] on = absurd on
-on_site P Q then (old ∷ []) (new ∷ []) on = then old.disk new.disk on.2
-on_site P Q then (old ∷ []) (new ∷ next ∷ bays) on = absurd on
-on_site P Q then (old ∷ next ∷ bays) new on = absurd on
+module _ {D : Type 0} (reads : D → Option Files) (may_leave : D → List ℕ → File → Type 0) (moment : D → ℕ) (left_since : D → ℕ → Files → Type 0) (faults : D → ℕ) (words : List (List ℕ)) (from to : Outside) (minute : ℕ) (old new : List (Bay D)) (out out' : Sunk) where
+  -- the reply where the folder or the input failed
+  source_rose : (line : Line) → Steps reads may_leave moment left_since (step line) from to minute old new Source → Rose from.folder.faults to.folder.faults ⊎ Rose from.input.faults to.input.faults
+  source_rose line steps = rose from to steps.given steps.starts.readings steps.starts.text (step_failed line steps.given steps.world steps.replies)
 
--- what follows on the site
-on_site_too : {D : Type 0} (P Q : D → D → Type 0) → ((a b : D) → P a b → Q a b) → (old new : List (Bay D)) → OnSite P old new → OnSite Q old new
-on_site_too P Q then [] [] on = absurd on
-on_site_too P Q then [] (bay ∷ new) on = absurd on
-on_site_too P Q then (old ∷ []) [] on = absurd on
-on_site_too P Q then (old ∷ []) (new ∷ []) on = (on.0, on.1, then old.disk new.disk on.2)
-on_site_too P Q then (old ∷ []) (new ∷ next ∷ bays) on = absurd on
-on_site_too P Q then (old ∷ next ∷ bays) new on = absurd on
+  abbrev Third : Type 0
+  Third = Rose from.folder.faults to.folder.faults ⊎ Rose from.input.faults to.input.faults ⊎ TellsChange reads may_leave moment left_since words from to minute old new
 
-module _ {D : Type 0} (reads : D → Option Files) (may_leave : D → List ℕ → File → Type 0) (moment : D → ℕ) (left_since : D → ℕ → Files → Type 0) (faults : D → ℕ) (words : List (List ℕ)) (from to : Sourced) (old new : List (Bay D)) (out out' : Sunk) where
-  -- the reply of a folder that failed
-  source_rose : (line : Line) (a b : D) → Steps reads may_leave moment left_since (step line) from to a b Source → Rose from.faults to.faults
-  source_rose line a b steps = folder_rose from to steps.given steps.starts.readings (step_failed line steps.given steps.library steps.replies)
+  by_source : Rose from.folder.faults to.folder.faults ⊎ Rose from.input.faults to.input.faults → Third
+  by_source (inl folder) = inl folder
+  by_source (inr input) = inr (inl input)
 
-  -- status 3 is that of a folder, which failed, or of which a file was changed
-  ends_3 : (line : Line) → read_line words ≡ Ok line → (reply : Reply) → 3 ≡ reply_status reply → OnSite (EndsOn reads may_leave moment left_since faults (step line) from to reply) old new
-      → Rose from.faults to.faults ⊎ TellsChange reads may_leave moment left_since words from to old new
-  ends_3 line is Source e ends =
-      inl (on_site (λ (a b : D). Steps reads may_leave moment left_since (step line) from to a b Source) (Rose from.faults to.faults) (source_rose line) old new ends)
+  -- status 3 is that of a folder or an input, which failed, or of a folder of which a file was changed
+  ends_3 : (line : Line) → read_line words ≡ Ok line → (reply : Reply) → 3 ≡ reply_status reply → EndsOn reads may_leave moment left_since faults (step line) from to minute reply old new → Third
+  ends_3 line is Source e ends = by_source (source_rose line ends)
   ends_3 line is (Changed path first first_size second second_size) e ends =
-      inr (record { line = line; read = is; path = path; first = first; first_size = first_size; second = second; second_size = second_size; steps = ends })
+      inr (inr (record { line = line; read = is; path = path; first = first; first_size = first_size; second = second; second_size = second_size; steps = ends }))
   ends_3 line is reply e ends = absurd (omega arith)
 
   -- status 5 is that of a disk, which failed
-  ends_5 : (line : Line) (reply : Reply) → 5 ≡ reply_status reply → OnSite (EndsOn reads may_leave moment left_since faults (step line) from to reply) old new → OnSite (λ (a b : D). Rose (faults a) (faults b)) old new
-  ends_5 line (Disk bay) e ends = on_site_too (EndsOn reads may_leave moment left_since faults (step line) from to (Disk bay)) (λ (a b : D). Rose (faults a) (faults b)) (λ a b failed. failed.1) old new ends
+  ends_5 : (line : Line) (reply : Reply) → 5 ≡ reply_status reply → EndsOn reads may_leave moment left_since faults (step line) from to minute reply old new → (bay : List ℕ) × RoseAt faults bay old new
+  ends_5 line (Disk bay) e ends = (bay, ends.0)
   ends_5 line reply e ends = absurd (omega arith)
 
   -- a usage line or want of memory ends by status 2, 4 or 6
@@ -112,14 +99,14 @@ module _ {D : Type 0} (reads : D → Option Files) (may_leave : D → List ℕ �
   -- how a line ends, or there is no memory to read it
   abbrev EndsBy : Line → ℕ → Type 0
   EndsBy line n =
-      ((reply : Reply) × OnSite (EndsOn reads may_leave moment left_since faults (step line) from to reply) old new × (Prints (Replied reply) out out' n ⊎ Prints (Replied Memory) out out' n))
+      ((reply : Reply) × EndsOn reads may_leave moment left_since faults (step line) from to minute reply old new × (Prints (Replied reply) out out' n ⊎ Prints (Replied Memory) out out' n))
       ⊎ ((new ≡ old) × Prints (Replied Memory) out out' n)
 
   line_2 : (line : Line) → EndsBy line 2 → ⊥
   line_2 line (inl (reply, ends, prints)) = not_reply_2 reply (whole reply 2 (omega arith) (omega arith) prints)
   line_2 line (inr (same, prints)) = memory_ends 2 (omega arith) (omega arith) prints
 
-  line_3 : (line : Line) → read_line words ≡ Ok line → EndsBy line 3 → Rose from.faults to.faults ⊎ TellsChange reads may_leave moment left_since words from to old new
+  line_3 : (line : Line) → read_line words ≡ Ok line → EndsBy line 3 → Third
   line_3 line is (inl (reply, ends, prints)) = ends_3 line is reply (whole reply 3 (omega arith) (omega arith) prints) ends
   line_3 line is (inr (same, prints)) = absurd (memory_ends 3 (omega arith) (omega arith) prints)
 
@@ -127,12 +114,12 @@ module _ {D : Type 0} (reads : D → Option Files) (may_leave : D → List ℕ �
   line_4 line (inl (reply, ends, prints)) = either_4 reply prints
   line_4 line (inr (same, prints)) = rose_4 Memory prints
 
-  line_5 : (line : Line) → EndsBy line 5 → OnSite (λ (a b : D). Rose (faults a) (faults b)) old new
+  line_5 : (line : Line) → EndsBy line 5 → (bay : List ℕ) × RoseAt faults bay old new
   line_5 line (inl (reply, ends, prints)) = ends_5 line reply (whole reply 5 (omega arith) (omega arith) prints) ends
   line_5 line (inr (same, prints)) = absurd (memory_ends 5 (omega arith) (omega arith) prints)
 
   abbrev Meets : ℕ → Type 0
-  Meets n = RunMeets reads may_leave moment left_since faults words from to old new out out' n
+  Meets n = RunMeets reads may_leave moment left_since faults words from to minute old new out out' n
 
   at_2 : Meets 2 → (fault : WordsFault) × (read_line words ≡ Err fault)
   at_2 meets = by (read_line words) refl
@@ -141,10 +128,10 @@ module _ {D : Type 0} (reads : D → Option Files) (may_leave : D → List ℕ �
       by (Ok line) is = absurd (line_2 line (meets.read line is))
       by (Err fault) is = (fault, is)
 
-  at_3 : Meets 3 → Rose from.faults to.faults ⊎ TellsChange reads may_leave moment left_since words from to old new
+  at_3 : Meets 3 → Rose from.folder.faults to.folder.faults ⊎ Rose from.input.faults to.input.faults ⊎ TellsChange reads may_leave moment left_since words from to minute old new
   at_3 meets = by (read_line words) refl
     where
-      by : (r : Result Line WordsFault) → read_line words ≡ r → Rose from.faults to.faults ⊎ TellsChange reads may_leave moment left_since words from to old new
+      by : (r : Result Line WordsFault) → read_line words ≡ r → Rose from.folder.faults to.folder.faults ⊎ Rose from.input.faults to.input.faults ⊎ TellsChange reads may_leave moment left_since words from to minute old new
       by (Ok line) is = line_3 line is (meets.read line is)
       by (Err fault) is = absurd (usage_ends fault 3 (omega arith) (omega arith) (omega arith) (meets.refused fault is).1)
 
@@ -155,14 +142,14 @@ module _ {D : Type 0} (reads : D → Option Files) (may_leave : D → List ℕ �
       by (Ok line) is = line_4 line (meets.read line is)
       by (Err fault) is = usage_4 fault (meets.refused fault is).1
 
-  at_5 : Meets 5 → OnSite (λ (a b : D). Rose (faults a) (faults b)) old new
+  at_5 : Meets 5 → (bay : List ℕ) × RoseAt faults bay old new
   at_5 meets = by (read_line words) refl
     where
-      by : (r : Result Line WordsFault) → read_line words ≡ r → OnSite (λ (a b : D). Rose (faults a) (faults b)) old new
+      by : (r : Result Line WordsFault) → read_line words ≡ r → (bay : List ℕ) × RoseAt faults bay old new
       by (Ok line) is = line_5 line (meets.read line is)
       by (Err fault) is = absurd (usage_ends fault 5 (omega arith) (omega arith) (omega arith) (meets.refused fault is).1)
 
-  pub causes : (result : ℕ) → Meets result → HasCauses reads may_leave moment left_since faults words from to old new out out' result
+  pub causes : (result : ℕ) → Meets result → HasCauses reads may_leave moment left_since faults words from to minute old new out out' result
   causes result meets = record {
     two = λ is. at_2 (subst Meets is meets);
     three = λ is. at_3 (subst Meets is meets);

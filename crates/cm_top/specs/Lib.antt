@@ -1,10 +1,5 @@
-pub mod Bays
 pub mod Causes
-pub mod Machine
 pub mod Numbers
-pub mod Opened
-pub mod Openings
 pub mod Runs
 pub mod Texts
 pub mod Words
-pub mod Worlds

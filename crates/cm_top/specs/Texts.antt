@@ -8,14 +8,14 @@ use Rattle.cm_check.specs.declared.finding.FindingKind.{FindingKind}
 use Rattle.cm_check.specs.declared.finding.FindingKind.TheVariants.{Missing, Differs}
 use Rattle.cm_state.specs.declared.row.VersionRow.{VersionRow}
 use Rattle.cm_state.specs.declared.row.JobRow.{JobRow}
+use Rattle.cm_site.specs.declared.reply.Refusal.{Refusal}
+use Rattle.cm_site.specs.declared.reply.Refusal.TheVariants.{NoVersion, PackageThere, NoPackage, NoJob, TooManyVersions, TooManyEntries, TooManyJobs, NoBay, TooManyTargets, BadPath, SamePath, TooManyFiles, FileTooLong, NotToml, WrongShape, TopologyRule, PointInUse, InputTooLong, VersionsSpent, Spent}
+use Rattle.cm_site.specs.declared.reply.Reply.{Reply}
+use Rattle.cm_site.specs.declared.reply.Reply.TheVariants.{Made, Added, Dropped, Topology, Versions, Findings, Loose, Purged, Refused, Source, Changed, Disk, Memory, NoLibrary, NoBayFor, Unreadable}
+use Rattle.cm_top.specs.declared.ended.Ended.{Ended}
+use Rattle.cm_top.specs.declared.ended.Ended.TheVariants.{Usage, Replied}
 use Rattle.cm_top.specs.declared.fault.WordsFault.{WordsFault}
 use Rattle.cm_top.specs.declared.fault.WordsFault.TheVariants.{NoCommand, UnknownCommand, BadValue, MissingWord, ExtraWord, Memory as NoMemory}
-use Rattle.cm_top.specs.declared.reply.Refusal.{Refusal}
-use Rattle.cm_top.specs.declared.reply.Refusal.TheVariants.{NoVersion, PackageThere, NoPackage, NoJob, TooManyVersions, TooManyEntries, TooManyJobs, NoBay, BadPath, SamePath, TooManyFiles, FileTooLong, VersionsSpent, Spent}
-use Rattle.cm_top.specs.declared.reply.Reply.{Reply}
-use Rattle.cm_top.specs.declared.reply.Reply.TheVariants.{Made, Added, Dropped, Versions, Findings, Loose, Purged, Refused, Source, Changed, Disk, Memory, NoLibrary, Unreadable}
-use Rattle.cm_top.specs.declared.reply.Ended.{Ended}
-use Rattle.cm_top.specs.declared.reply.Ended.TheVariants.{Usage, Replied}
 
 -- each further word after one blank, and the line's end
 abbrev pub spoken_on : List (List ℕ) → List ℕ
@@ -46,10 +46,16 @@ refusal_words TooManyVersions = codes "7" ∷ codes "TooManyVersions" ∷ []
 refusal_words TooManyEntries = codes "8" ∷ codes "TooManyEntries" ∷ []
 refusal_words TooManyJobs = codes "9" ∷ codes "TooManyJobs" ∷ []
 refusal_words (NoBay name) = codes "10" ∷ codes "NoBay" ∷ name ∷ []
+refusal_words TooManyTargets = codes "14" ∷ codes "TooManyTargets" ∷ []
 refusal_words (BadPath entry) = codes "19" ∷ codes "BadPath" ∷ decimal entry ∷ []
 refusal_words (SamePath entry) = codes "20" ∷ codes "SamePath" ∷ decimal entry ∷ []
 refusal_words TooManyFiles = codes "21" ∷ codes "TooManyFiles" ∷ []
 refusal_words (FileTooLong entry) = codes "22" ∷ codes "FileTooLong" ∷ decimal entry ∷ []
+refusal_words NotToml = codes "23" ∷ codes "NotToml" ∷ []
+refusal_words (WrongShape part entry) = codes "24" ∷ codes "WrongShape" ∷ decimal part ∷ decimal entry ∷ []
+refusal_words (TopologyRule rule part entry) = codes "25" ∷ codes "TopologyRule" ∷ decimal rule ∷ decimal part ∷ decimal entry ∷ []
+refusal_words (PointInUse point) = codes "26" ∷ codes "PointInUse" ∷ point ∷ []
+refusal_words InputTooLong = codes "27" ∷ codes "InputTooLong" ∷ []
 refusal_words VersionsSpent = codes "28" ∷ codes "VersionsSpent" ∷ []
 refusal_words Spent = codes "30" ∷ codes "Spent" ∷ []
 
@@ -78,10 +84,16 @@ findings_text files (finding ∷ rest) = finding_line finding ++ flat_map findin
 abbrev pub place_line : List ℕ → List ℕ
 place_line place = spoken (place ∷ [])
 
+-- what a topology has, and how many targets were made for points that joined a group
+abbrev pub topology_words : ℕ → ℕ → ℕ → ℕ → ℕ → List (List ℕ)
+topology_words boundaries groups points peers joined =
+    codes "topology" ∷ codes "boundaries" ∷ decimal boundaries ∷ codes "groups" ∷ decimal groups ∷ codes "points" ∷ decimal points ∷ codes "peers" ∷ decimal peers ∷ codes "joined" ∷ decimal joined ∷ []
+
 abbrev pub reply_text : Reply → List ℕ
 reply_text (Made count) = spoken (codes "made" ∷ decimal count ∷ [])
 reply_text (Added id version files bytes) = spoken (codes "added" ∷ id ∷ decimal version ∷ codes "files" ∷ decimal files ∷ codes "bytes" ∷ decimal bytes ∷ [])
 reply_text Dropped = spoken (codes "dropped" ∷ [])
+reply_text (Topology boundaries groups points peers joined) = spoken (topology_words boundaries groups points peers joined)
 reply_text (Versions versions jobs) = flat_map version_line versions ++ flat_map job_line jobs
 reply_text (Findings files list) = findings_text files list
 reply_text (Loose places) = flat_map place_line places ++ spoken (codes "loose" ∷ decimal (length places) ∷ [])
@@ -93,6 +105,7 @@ reply_text (Changed path first first_size second second_size) =
 reply_text (Disk bay) = spoken (codes "disk" ∷ bay ∷ [])
 reply_text Memory = spoken (codes "memory" ∷ [])
 reply_text (NoLibrary bay) = spoken (codes "library" ∷ bay ∷ codes "missing" ∷ [])
+reply_text (NoBayFor name) = spoken (codes "library" ∷ name ∷ codes "nobay" ∷ [])
 reply_text (Unreadable bay place at) = spoken (codes "library" ∷ bay ∷ codes "unreadable" ∷ place ∷ decimal at ∷ [])
 
 abbrev pub usage_status : WordsFault → ℕ
@@ -103,6 +116,7 @@ abbrev pub reply_status : Reply → ℕ
 reply_status (Made count) = 0
 reply_status (Added id version files bytes) = 0
 reply_status Dropped = 0
+reply_status (Topology boundaries groups points peers joined) = 0
 reply_status (Versions versions jobs) = 0
 reply_status (Findings files list) = 0
 reply_status (Loose places) = 0
@@ -113,6 +127,7 @@ reply_status (Changed path first first_size second second_size) = 3
 reply_status (Disk bay) = 5
 reply_status Memory = 6
 reply_status (NoLibrary bay) = 7
+reply_status (NoBayFor name) = 7
 reply_status (Unreadable bay place at) = 7
 
 -- the text that a run prints

@@ -6,7 +6,7 @@ use Rattle.cm_base.specs.Names.{name_of, is_package_id, text_if}
 use Rattle.cm_top.specs.declared.fault.WordsFault.{WordsFault}
 use Rattle.cm_top.specs.declared.fault.WordsFault.TheVariants.{NoCommand, UnknownCommand, BadValue, MissingWord, ExtraWord}
 use Rattle.cm_top.specs.declared.line.Line.{Line}
-use Rattle.cm_top.specs.declared.line.Line.TheVariants.{Init, Add, Update, Drop, List as ListBay, Validate, WhatIf, Purge}
+use Rattle.cm_top.specs.declared.line.Line.TheVariants.{Init, Add, Update, Drop, List as ListBay, Validate, WhatIf, Purge, Topology}
 use Rattle.cm_top.specs.Numbers.{job_of, version_of}
 
 -- the bytes of each word
@@ -129,6 +129,10 @@ read_purge words =
     and_then (value_at name_of 1 values) (λ bay.
     Ok (Purge bay)))
 
+-- the words behind `topology`: none
+abbrev pub read_topology : List (List ℕ) → Result Line WordsFault
+read_topology words = and_then (counted_values 0 words) (λ values. Ok Topology)
+
 -- the line that the words say, or why they are refused
 abbrev pub read_line : List (List ℕ) → Result Line WordsFault
 read_line [] = Err NoCommand
@@ -141,4 +145,5 @@ read_line (word ∷ words) =
     else (if bytes_eq word (codes "validate") then read_validate words
     else (if bytes_eq word (codes "what-if") then read_what_if words
     else (if bytes_eq word (codes "purge") then read_purge words
-    else Err UnknownCommand)))))))
+    else (if bytes_eq word (codes "topology") then read_topology words
+    else Err UnknownCommand))))))))

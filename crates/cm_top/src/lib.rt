@@ -1,27 +1,18 @@
-//! The commands of the program.
+//! The command line of the program: its words, the texts that it prints, and its statuses.
 #![tactic(auto)]
 
-mod adding;
-mod bay;
-mod dropping;
+mod ended;
 mod fault;
-mod init;
 mod line;
-mod listing;
-mod opening;
-mod purging;
-mod reply;
 mod running;
 mod say;
 mod show;
 mod texts;
-mod validating;
 mod words;
 
-pub use bay::Bay;
+pub use cm_site::{Bay, Refusal, Reply};
+pub use ended::Ended;
 pub use fault::WordsFault;
-pub use init::first_without_bay;
 pub use line::Line;
-pub use reply::{Ended, Refusal, Reply};
 pub use running::run;
 pub use words::{numbers_are_their_digits, read_words};

@@ -4,7 +4,7 @@ use cm_base::{JobId, List, PackageId, ServerName, Version};
 /// What the words of the command line say.
 #[derive(Drop)]
 pub enum Line {
-    /// Makes the libraries of these bays, or of all where none is named.
+    /// Makes a library, or the records, in each of these bays that has nothing, or in all where none is named.
     Init {
         names: List<ServerName>,
     },
@@ -39,4 +39,6 @@ pub enum Line {
     Purge {
         bay: ServerName,
     },
+    /// Replaces the topology by what the input says.
+    Topology,
 }

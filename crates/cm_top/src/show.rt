@@ -2,8 +2,8 @@
 ghost use Rattle.std.specs.Prelude.{◌≡◌, ◌⊎◌};
 ghost use Rattle.cm_top.specs.Texts.{text};
 ghost use Rattle.cm_top.specs.Runs.{Prints, sunk};
-ghost use Rattle.cm_top.specs.declared.reply.Ended.TheVariants.{Replied};
-ghost use Rattle.cm_top.specs.declared.reply.Reply.TheVariants.{Memory};
+ghost use Rattle.cm_top.specs.declared.ended.Ended.TheVariants.{Replied};
+ghost use Rattle.cm_site.specs.declared.reply.Reply.TheVariants.{Memory};
 
 use crate::texts::{status_of, text_of};
 use crate::{Ended, Reply};

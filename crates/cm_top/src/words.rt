@@ -3,7 +3,7 @@ ghost use Rattle.std.specs.Prelude.{◌≡◌, ◌≢◌, ℕ, ◌+◌, ◌-◌,
 ghost use Rattle.std.specs.Fmt.{decimal};
 ghost use Rattle.cm_top.specs.Numbers.{number_within, job_of, version_of};
 ghost use Rattle.cm_top.specs.Words.{texts, is_option, is_end, has_option, values_of, counted_values, value_at, names_from, package_of};
-ghost use Rattle.cm_top.specs.Words.{read_init, read_add, read_update, read_list, read_drop, read_validate, read_what_if, read_purge, read_line};
+ghost use Rattle.cm_top.specs.Words.{read_init, read_add, read_update, read_list, read_drop, read_validate, read_what_if, read_purge, read_topology, read_line};
 ghost use Rattle.cm_base.specs.Names.{name_of};
 ghost use Rattle.cm_top.specs.declared.fault.WordsFault.TheVariants.{Memory};
 
@@ -287,6 +287,13 @@ fn purge_line(words: &[String]) -> Result<Line, WordsFault>
     Ok(Line::Purge { bay })
 }
 
+fn topology_line(words: &[String]) -> Result<Line, WordsFault>
+    ensures { result ≡ read_topology (texts words.now) }
+{
+    expect_values(words, 0)?;
+    Ok(Line::Topology)
+}
+
 /// The line that the words say, or the first reason why they say none.
 pub fn read_words(alloc: Global, words: &[String]) -> Result<Line, WordsFault>
     ensures ok { IfOk result (λ line. read_line (texts words.now) ≡ Ok line) }
@@ -305,6 +312,7 @@ pub fn read_words(alloc: Global, words: &[String]) -> Result<Line, WordsFault>
         "validate" => validate_line(rest),
         "what-if" => what_if_line(rest),
         "purge" => purge_line(rest),
+        "topology" => topology_line(rest),
         _ => Err(WordsFault::UnknownCommand),
     }
 }

@@ -10,11 +10,22 @@ const TRIES: u32 = 101;
 const PAUSE: u64 = 50;
 
 /// How this run may use the files below the base folder.
+#[derive(Clone, Copy)]
+pub(crate) enum Access {
+    /// No other process of this program has the folder.
+    Held,
+    /// There is no such folder: nothing is read below it, and nothing is written.
+    Absent,
+    /// The folder can't be had: nothing is read below it, and nothing is written.
+    Refused,
+}
+
+/// The base folder, for as long as this value lives.
 #[derive(Drop)]
 pub(crate) enum Base {
     /// No other process of this program has the folder while this value lives: an exclusive advisory lock is held on it.
     Held { _folder: File },
-    /// There is no such folder: nothing is read below it, and nothing is written.
+    /// There is no such folder.
     Absent,
     /// Another process has held it for five seconds, or it can't be opened, made or locked.
     Refused,
@@ -32,6 +43,14 @@ impl Base {
             Ok(folder) => held(rt, folder),
             Err(error) if error.kind() == io::ErrorKind::NotFound => Base::Absent,
             Err(_) => Base::Refused,
+        }
+    }
+
+    pub(crate) fn access(&self) -> Access {
+        match self {
+            Base::Held { .. } => Access::Held,
+            Base::Absent => Access::Absent,
+            Base::Refused => Access::Refused,
         }
     }
 }

@@ -2,10 +2,13 @@
 #![tactic(auto)]
 
 mod base;
+mod bay_disk;
+mod bays;
 mod clock;
+mod folders;
 mod input;
+mod names;
 mod output;
-mod site_disk;
 mod start;
 
 use crate::start::start;

@@ -1,4 +1,5 @@
 //! What the tests hand to `run`.
+use crate::bays::are_bays;
 use cm_base::{MemSink, MemSource, Memory, Place, ServerName};
 use cm_disk::{Disk, MemDisk};
 use cm_top::{Bay, run};
@@ -30,6 +31,7 @@ pub(crate) fn tried_over<F: Folder, D: Disk + Drop>(
     let name = ServerName::read(b"site").expect(rt, "a name");
     let mut bays = Vec::new(alloc);
     bays.push(Bay { name, disk })?;
+    assert!(rt; are_bays(&bays));
     let status = run(alloc, &list, &mut input, folder, &mut out, &mut bays, 0);
     let Bay { disk, .. } = bays.pop().expect(rt, "the bay");
     Ok((status, out.bytes().to_vec(alloc)?, disk))
@@ -57,6 +59,35 @@ pub(crate) fn ran<D: Disk + Drop>(
 ) -> Result<(u8, Vec<u8>, D), Fail> {
     let mut folder = folder_of(alloc, &[], &[])?;
     ran_over(rt, alloc, words, &mut folder, disk, fail)
+}
+
+/// How a run of these words ended over the bays of a site and an input: the status and the text. The folder has no files.
+pub(crate) fn ran_site(
+    rt: &impl Abort,
+    alloc: Global,
+    words: &[&str],
+    input: &mut MemSource,
+    names: &[&str],
+    disks: &mut Vec<MemDisk>,
+) -> Result<(u8, Vec<u8>), Fail> {
+    let mut list = Vec::new(alloc);
+    for word in words {
+        list.push(String::from_str(alloc, word)?)?;
+    }
+    let mut bays = Vec::new(alloc);
+    for (name, disk) in names.iter().zip(mem::replace(disks, Vec::new(alloc))) {
+        let name = ServerName::read(name.as_bytes()).ok_or("a name")?;
+        bays.push(Bay { name, disk })?;
+    }
+    assert!(rt; are_bays(&bays));
+    let mut folder = folder_of(alloc, &[], &[])?;
+    let mut out = MemSink::new(alloc, 3, Vec::new(alloc));
+    let status = run(alloc, &list, input, &mut folder, &mut out, &mut bays, 0);
+    for bay in bays {
+        let Bay { disk, .. } = bay;
+        disks.push(disk)?;
+    }
+    Ok((status, out.bytes().to_vec(alloc)?))
 }
 
 /// The status and the text of these words over a disk and a folder of these files. A file that was read to its end has then the

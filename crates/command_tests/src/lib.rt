@@ -6,6 +6,8 @@
 #[cfg(test)]
 mod add;
 #[cfg(test)]
+mod bays;
+#[cfg(test)]
 mod cases;
 #[cfg(test)]
 mod changed;
@@ -29,6 +31,8 @@ mod purge_stops;
 mod stops;
 #[cfg(test)]
 mod three;
+#[cfg(test)]
+mod topology;
 #[cfg(test)]
 mod unreadable;
 #[cfg(test)]

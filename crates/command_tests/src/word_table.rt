@@ -135,6 +135,16 @@ const WHAT_IF: [Row; 8] = [
     (&["what-if", "site", "-x"], "ExtraWord"),
 ];
 
+const TOPOLOGY: [Row; 7] = [
+    (&["topology"], "topology"),
+    (&["topology", "--"], "topology"),
+    (&["topology", "-"], "ExtraWord"),
+    (&["topology", "x"], "ExtraWord"),
+    (&["topology", "-x"], "ExtraWord"),
+    (&["topology", "--", "-x"], "ExtraWord"),
+    (&["Topology"], "UnknownCommand"),
+];
+
 const VALIDATE: [Row; 19] = [
     (
         &["validate", "site", "PS100001", "1"],
@@ -268,6 +278,7 @@ fn line_text(alloc: Global, line: &Line) -> Result<Vec<u8>, Fail> {
         }
         Line::WhatIf { bay } => joined(alloc, &[b"what-if", bay.as_bytes()]),
         Line::Purge { bay } => joined(alloc, &[b"purge", bay.as_bytes()]),
+        Line::Topology => joined(alloc, &[b"topology"]),
     }
 }
 
@@ -329,6 +340,11 @@ fn reads_purge(rt: HostRuntime) -> Result<(), Fail> {
 #[test]
 fn reads_what_if(rt: HostRuntime) -> Result<(), Fail> {
     reads(&rt, rt.alloc(), &WHAT_IF)
+}
+
+#[test]
+fn reads_topology(rt: HostRuntime) -> Result<(), Fail> {
+    reads(&rt, rt.alloc(), &TOPOLOGY)
 }
 
 #[test]

@@ -1,0 +1,15 @@
+pub mod Bays
+pub mod Contents
+pub mod Found
+pub mod Machine
+pub mod Making
+pub mod OneEnds
+pub mod OneLibrary
+pub mod Opened
+pub mod Opening
+pub mod Openings
+pub mod Refusals
+pub mod Runs
+pub mod Unopened
+pub mod Worked
+pub mod Worlds

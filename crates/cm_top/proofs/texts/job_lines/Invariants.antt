@@ -1,7 +1,0 @@
-use Rattle.std.proofs.Common.{◌≡◌, ◌++◌, drop}
-use Rattle.std.specs.List.{flat_map}
-use Rattle.cm_top.specs.Texts.{job_line}
-use Rattle.cm_top.proofs.texts.job_lines.Given as goal
-
-abbrev pub invariant-loop-row : goal.invariant-loop-row
-invariant-loop-row l = l.out.items ++ flat_map job_line (drop l.row-index l.rows) ≡ l.fn.out.items ++ flat_map job_line l.rows

@@ -1,0 +1,5 @@
+mod AsciiNames
+mod BaseMade
+mod BayNameLaws
+mod FewArguments
+mod FirstOthers

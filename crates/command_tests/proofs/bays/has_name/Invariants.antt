@@ -1,0 +1,7 @@
+use Rattle.std.proofs.Common.{◌≡◌, drop}
+use Rattle.cm_groups.specs.Names.{is_among}
+use Rattle.cm_site.specs.Bays.{names_of}
+use Rattle.command_tests.proofs.bays.has_name.Given as goal
+
+abbrev pub invariant-loop-bay : goal.invariant-loop-bay
+invariant-loop-bay g l = is_among (names_of (drop l.bay-index l.bays)) l.name ≡ is_among (names_of l.bays) l.name
